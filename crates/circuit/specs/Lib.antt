@@ -1,0 +1,6 @@
+pub mod Colours
+pub mod Sum
+pub mod Polynomial
+pub mod Listing
+pub mod Words
+pub mod History

@@ -1,0 +1,53 @@
+-- The terms in order (document 01, "Bracket lines": "every term once, in any order").
+-- The order is the one that document 02 (d) asks for, so that it is fixed from the start.
+use mathlib.Core.Bool.{Bool, true, false, cond}
+use mathlib.Core.List.{List, [], _∷_, _++_}
+use Prim.Native.Nat.{ℕ, zero, suc, _+_}
+use Rattle.circuit.specs.declared.Colour.{Colour}
+use Rattle.circuit.specs.declared.Colour.the-variants.{Red, Blue, Green}
+use Rattle.circuit.specs.declared.Spot.{Spot}
+use Rattle.circuit.specs.declared.Gate.{Gate}
+use Rattle.circuit.specs.declared.Gate.the-variants.{Ccz, Cz}
+use Rattle.circuit.specs.declared.Entry.{Entry}
+use Rattle.circuit.specs.declared.Entry.the-variants.{Listed, Nothing}
+use Rattle.circuit.specs.Colours.{join}
+use Rattle.circuit.specs.Polynomial.{Term, Polynomial, term}
+
+-- f 1, .., f n, one after the other.
+unfoldable pub overPositions : ℕ → (ℕ → List Term) → List Term
+overPositions zero f = []
+overPositions (suc n) f = overPositions n f ++ f (suc n)
+
+-- Terms with a position of each colour, by red, then blue, then green position.
+unfoldable pub triples : ℕ → List Term
+triples m = overPositions m (λ i. overPositions m (λ j. overPositions m (λ k. term i j k ∷ [])))
+
+-- Terms with no position of C, by the first and then the second of the other two.
+unfoldable pub pairsBeside : Colour → ℕ → List Term
+pairsBeside C m = overPositions m (λ i. overPositions m (λ j. join C 0 i j ∷ []))
+
+-- Every term that a circuit of m positions can have: CCZ terms, then CZ terms red-blue, red-green, blue-green.
+unfoldable pub everyTerm : ℕ → List Term
+everyTerm m = triples m ++ (pairsBeside Green m ++ (pairsBeside Blue m ++ pairsBeside Red m))
+
+-- Those of a list that are in the polynomial.
+unfoldable pub among : Polynomial → List Term → List Term
+among f [] = []
+among f (h ∷ hs) = cond (f h) (h ∷ among f hs) (among f hs)
+
+-- The listing of a polynomial.
+unfoldable pub listing : ℕ → Polynomial → List Term
+listing m f = among f (everyTerm m)
+
+-- "each a `ccz` or `cz` form": the gate that adds a term, colours in the order r, b, g.
+unfoldable pub gateOfTerm : ℕ → ℕ → ℕ → Gate
+gateOfTerm zero j k = Cz (record { colour = Blue; position = j }) (record { colour = Green; position = k })
+gateOfTerm (suc i) zero k = Cz (record { colour = Red; position = suc i }) (record { colour = Green; position = k })
+gateOfTerm (suc i) (suc j) zero = Cz (record { colour = Red; position = suc i }) (record { colour = Blue; position = suc j })
+gateOfTerm (suc i) (suc j) (suc k) = Ccz (suc i) (suc j) (suc k)
+
+-- The entry at place n of a listing, places counted from 0.
+unfoldable pub entryOf : List Term → ℕ → Entry
+entryOf [] n = Nothing
+entryOf (h ∷ hs) zero = Listed (gateOfTerm (h .red) (h .blue) (h .green))
+entryOf (h ∷ hs) (suc n) = entryOf hs n

@@ -1,0 +1,89 @@
+-- The circuit and its sum (document 01, "The circuit and its sum"; source document 000).
+use mathlib.Core.Bool.{Bool, true, false, not, cond, _&&_}
+use mathlib.Core.List.{List, [], _∷_}
+use Prim.Native.Nat.{ℕ, zero, suc}
+use lib.Dec.{eqb, leb}
+use lib.IntN.{ℤ}
+use Rattle.gf2.specs.Strings.{BitString, _⊕_, dot, bit, flip}
+use Rattle.gf2.specs.Sums.{sum, sgn}
+use Rattle.circuit.specs.declared.Colour.{Colour}
+use Rattle.circuit.specs.declared.Spot.{Spot}
+use Rattle.circuit.specs.declared.Gate.{Gate}
+use Rattle.circuit.specs.declared.Gate.the-variants.{Ccz, Cz, Cnot}
+use Rattle.circuit.specs.Colours.{Three, the, put, sameColour}
+
+-- "m is the number of positions in a colour .. Positions run from 1 to m."
+unfoldable pub isPosition : ℕ → ℕ → Bool
+isPosition m p = leb 1 p && leb p m
+
+-- "A basis string gives one bit to every position of every colour."
+abbrev pub Basis : Type 0
+Basis = Three BitString
+
+-- The bit at a position. Place 0, before the first position, holds the constant 1.
+unfoldable pub at : ℕ → BitString → Bool
+at p x = bit p (true ∷ x)
+
+-- A position turned over.
+unfoldable pub turned : ℕ → BitString → BitString
+turned zero x = x
+turned (suc p) x = flip p x
+
+-- "CNOT .. replaces the target bit by target plus control, modulo 2."
+unfoldable pub replaced : ℕ → ℕ → BitString → BitString
+replaced c t x = cond (at c x) (turned t x) x
+
+-- "A gate acts on one string. CCZ on r i, b j, g k turns the sign where all three bits are 1. CZ on two positions of different
+-- colours turns it where both are 1."
+unfoldable pub turnsSign : Gate → Basis → Bool
+turnsSign (Ccz i j k) x = at i (x .red) && (at j (x .blue) && at k (x .green))
+turnsSign (Cz p q) x = at (p .position) (the (p .colour) x) && at (q .position) (the (q .colour) x)
+turnsSign (Cnot C c t) x = false
+
+-- The string that a gate leaves: "CNOT on two different positions of one colour replaces the target bit".
+unfoldable pub leaves : Gate → Basis → Basis
+leaves (Ccz i j k) x = x
+leaves (Cz p q) x = x
+leaves (Cnot C c t) x = put C (replaced c t (the C x)) x
+
+-- Which gates a circuit of m positions has: positions in range, a CZ on different colours, a CNOT on different positions.
+unfoldable pub isGate : ℕ → Gate → Bool
+isGate m (Ccz i j k) = isPosition m i && (isPosition m j && isPosition m k)
+isGate m (Cz p q) = isPosition m (p .position) && (isPosition m (q .position) && not (sameColour (p .colour) (q .colour)))
+isGate m (Cnot C c t) = isPosition m c && (isPosition m t && not (eqb c t))
+
+unfoldable pub areGates : ℕ → List Gate → Bool
+areGates m [] = true
+areGates m (g ∷ gs) = isGate m g && areGates m gs
+
+-- A string with the sign met so far, turned where the bit is 1.
+pub record Signed : Type 0 where
+  pub sign : Bool
+  pub string : Basis
+
+-- "carry y through the gates in turn to a string x, with the sign met on the way"
+unfoldable pub carry : Gate → Signed → Signed
+carry g q = record { sign = q .sign ⊕ turnsSign g (q .string); string = leaves g (q .string) }
+
+unfoldable pub carryAll : List Gate → Signed → Signed
+carryAll [] q = q
+carryAll (g ∷ gs) q = carryAll gs (carry g q)
+
+-- A string before the first gate.
+unfoldable pub unsigned : Basis → Signed
+unsigned y = record { sign = false; string = y }
+
+-- "turn it once more if s and x share an odd number of ones"
+unfoldable pub dots : Basis → Basis → Bool
+dots s x = dot (s .red) (x .red) ⊕ (dot (s .blue) (x .blue) ⊕ dot (s .green) (x .green))
+
+unfoldable pub counted : Basis → Signed → ℤ
+counted s q = sgn (q .sign ⊕ dots s (q .string))
+
+-- A sum over all 2 ^ (3 m) basis strings.
+unfoldable pub sumAll : ℕ → (Basis → ℤ) → ℤ
+sumAll m f = sum m (λ r. sum m (λ b. sum m (λ g. f (record { red = r; blue = b; green = g }))))
+
+-- "For an output string s, the signed sum S(s) runs over all 2^n strings y .. The amplitude is S / 2^n."
+unfoldable pub signedSum : ℕ → List Gate → Basis → ℤ
+signedSum m gs s = sumAll m (λ y. counted s (carryAll gs (unsigned y)))

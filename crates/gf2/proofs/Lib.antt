@@ -1,0 +1,12 @@
+pub mod Integers
+pub mod Bits
+pub mod Strings
+pub mod Sums
+pub mod Parseval
+pub mod Below
+pub mod Parities
+pub mod Digits
+pub mod HighFirst
+pub mod LowFirst
+pub mod WordBits
+pub mod Tables
