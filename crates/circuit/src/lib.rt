@@ -1,6 +1,11 @@
 // The gates of a three-colour circuit, and its phase polynomial in words.
 ghost use mathlib.Core.Path.{_≡_};
-ghost use Rattle.circuit.specs.Colours.{numberOf, colourOf, thirdOf};
+ghost use Rattle.circuit.specs.Colours.{numberOf, colourOf, thirdOf, sameColour};
+ghost use Rattle.circuit.specs.Sum.{isPosition, isGate};
+
+pub mod history;
+pub mod listing;
+pub mod polynomial;
 
 pub enum Colour {
     Red,
@@ -41,9 +46,52 @@ pub fn number_of(c: Colour) -> usize
 pub fn colour_of(n: usize) -> Colour
     ensures { λ r. ⌜ r ≡ colourOf n ⌝ }
 {
-    match n {
-        0 => Colour::Red,
-        1 => Colour::Blue,
-        _ => Colour::Green,
+    if n == 0 {
+        return Colour::Red;
+    }
+    if n == 1 {
+        return Colour::Blue;
+    }
+    Colour::Green
+}
+
+// The third colour beside two others: 3 less both.
+pub fn third(a: Colour, b: Colour) -> Colour
+    ensures { λ r. ⌜ r ≡ thirdOf a b ⌝ }
+{
+    let both = number_of(a) + number_of(b);
+    if 3 < both {
+        return colour_of(0);
+    }
+    colour_of(3 - both)
+}
+
+pub fn same_colour(a: Colour, b: Colour) -> bool
+    ensures { λ r. ⌜ r ≡ sameColour a b ⌝ }
+{
+    number_of(a) == number_of(b)
+}
+
+pub fn is_position(m: usize, p: usize) -> bool
+    ensures { λ r. ⌜ r ≡ isPosition m p ⌝ }
+{
+    if p < 1 {
+        return false;
+    }
+    p <= m
+}
+
+// Does a circuit of `m` positions have this gate?
+pub fn is_gate(m: usize, g: Gate) -> bool
+    ensures { λ r. ⌜ r ≡ isGate m g ⌝ }
+{
+    match g {
+        Gate::Ccz(i, j, k) => is_position(m, i) && is_position(m, j) && is_position(m, k),
+        Gate::Cz(p, q) => {
+            is_position(m, p.position)
+                && is_position(m, q.position)
+                && !same_colour(p.colour, q.colour)
+        }
+        Gate::Cnot(_, c, t) => is_position(m, c) && is_position(m, t) && c != t,
     }
 }
