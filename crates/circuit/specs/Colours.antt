@@ -1,5 +1,5 @@
 -- The three colours (document 01, "The circuit and its sum"): their numbers, the third beside two others, and something for each of them.
-use mathlib.Core.Bool.{Bool, true, false}
+use mathlib.Core.Bool.{Bool}
 use Prim.Native.Nat.{ℕ, zero, suc, _+_, _-_}
 use lib.Dec.{eqb}
 use Rattle.circuit.specs.declared.Colour.{Colour}

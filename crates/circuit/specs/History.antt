@@ -1,5 +1,5 @@
 -- A gate's code in the history, and the gate of a code. Four digits in base 32: what kind of gate, and up to three positions.
-use Prim.Native.Nat.{ℕ, zero, suc, _+_, _-_, _*_, _/_, _%_}
+use Prim.Native.Nat.{ℕ, _+_, _-_, _*_, _/_, _%_}
 use mathlib.Core.Bool.{cond}
 use lib.Dec.{ltb}
 use Rattle.circuit.specs.declared.Gate.{Gate}

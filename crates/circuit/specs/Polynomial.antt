@@ -1,5 +1,5 @@
 -- The phase polynomial (document 01, "The circuit and its sum"; source document 000, equation 1).
-use mathlib.Core.Bool.{Bool, true, false, _&&_}
+use mathlib.Core.Bool.{Bool, false, _&&_}
 use mathlib.Core.List.{List, [], _∷_}
 use Prim.Native.Nat.{ℕ, suc}
 use lib.Dec.{eqb}

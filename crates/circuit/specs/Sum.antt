@@ -6,8 +6,6 @@ use lib.Dec.{eqb, leb}
 use lib.IntN.{ℤ}
 use Rattle.gf2.specs.Strings.{BitString, _⊕_, dot, bit, flip}
 use Rattle.gf2.specs.Sums.{sum, sgn}
-use Rattle.circuit.specs.declared.Colour.{Colour}
-use Rattle.circuit.specs.declared.Spot.{Spot}
 use Rattle.circuit.specs.declared.Gate.{Gate}
 use Rattle.circuit.specs.declared.Gate.the-variants.{Ccz, Cz, Cnot}
 use Rattle.circuit.specs.Colours.{Three, the, put, sameColour}

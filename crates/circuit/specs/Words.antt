@@ -1,7 +1,7 @@
 -- The polynomial in memory: 17 times 17 words, one for each red and blue index; bit k of word 17 i + j is the term i, j, k.
 use mathlib.Core.Bool.{cond}
 use mathlib.Core.List.{List}
-use Prim.Native.Nat.{ℕ, _+_, _*_, _/_, _%_}
+use Prim.Native.Nat.{ℕ, _/_, _%_}
 use Rattle.gf2.specs.Words.{wordOf, tabulate}
 use Rattle.circuit.specs.declared.Gate.{Gate}
 use Rattle.circuit.specs.Sum.{isGate}

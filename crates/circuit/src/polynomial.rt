@@ -1,7 +1,6 @@
 // The phase polynomial in words: bit k of word 17 i + j is the term with the indices i, j, k in red, blue and green, index 0
 // for a colour that the term has no position of.
 ghost use mathlib.Core.Path.{_≡_};
-ghost use lib.ListN.{length};
 ghost use Rattle.circuit.specs.Polynomial.{Polynomial, term, pair, empty, toggled, substituted};
 ghost use Rattle.circuit.specs.Words.{wordsOf, taken};
 ghost use Prim.Native.Nat.{_≤_};

@@ -3,7 +3,7 @@ use mathlib.Core.Path.{_≡_, refl, sym, _∙_, ap, ap₂}
 use Prim.Native.Nat.{ℕ, zero, suc, _+_, _*_, _<_}
 use native.Mathlib.Nat.{add-zero, add-suc}
 use native.Mathlib.Omega.{arith}
-use lib.IntN.{ℤ, pos, _+ℤ_, +ℤ-idr, +ℤ-assoc}
+use lib.IntN.{ℤ, _+ℤ_, +ℤ-idr, +ℤ-assoc}
 use Rattle.gf2.specs.Sums.{sumBelow}
 use Rattle.gf2.proofs.Integers.{add-ac}
 

@@ -1,6 +1,6 @@
 -- Laws of sums and products of bits.
-use mathlib.Core.Path.{_≡_, refl, sym, _∙_, ap, ap₂}
-use mathlib.Core.Bool.{Bool, true, false, not, cond, _&&_}
+use mathlib.Core.Path.{_≡_, refl, sym, _∙_, ap}
+use mathlib.Core.Bool.{Bool, true, false, not, _&&_}
 use lib.IntN.{_*ℤ_, negℤ}
 use Rattle.gf2.specs.Strings.{_⊕_}
 use Rattle.gf2.specs.Sums.{sgn}

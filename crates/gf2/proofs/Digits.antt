@@ -1,14 +1,13 @@
 -- The low digit of a sum, an exclusive or and an `and`; bits of words.
-use mathlib.Core.Path.{_≡_, refl, sym, _∙_, ap, ap₂}
-use mathlib.Core.Bool.{Bool, true, false, not, cond, _&&_}
-use mathlib.Core.List.{List, [], _∷_}
-use Prim.Native.Nat.{ℕ, zero, suc, _+_, _*_, _-_, _/_, _%_, _^_, _≤_, _<_, min}
+use mathlib.Core.Path.{_≡_, refl, _∙_, ap}
+use mathlib.Core.Bool.{false, _&&_}
+use Prim.Native.Nat.{ℕ, zero, suc, _+_, _*_, _/_, _%_, _<_, min}
 use native.Mathlib.Nat.{zero-min, min-zero}
 use native.Mathlib.Omega.{arith}
-use lib.Bits.{bitXor, bitAnd, differ, xor-step, and-step, xor-shr}
+use lib.Bits.{bitXor, bitAnd, differ, xor-step, and-step}
 use lib.Count as Count
 use Rattle.gf2.specs.Strings.{_⊕_}
-use Rattle.gf2.specs.Words.{bitOf, odd, bitAt}
+use Rattle.gf2.specs.Words.{bitOf, odd}
 
 pub differ-lt : (x y : ℕ) → x < 2 → y < 2 → differ x y < 2
 differ-lt zero y h k = k

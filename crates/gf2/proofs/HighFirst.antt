@@ -1,14 +1,14 @@
 -- A word as a bit string with the highest digit first: position 1 is the highest digit.
-use mathlib.Core.Path.{_≡_, refl, sym, _∙_, ap, ap₂}
-use mathlib.Core.Bool.{Bool, true, false, not, cond, _&&_}
-use mathlib.Core.List.{List, [], _∷_}
-use Prim.Native.Nat.{ℕ, zero, suc, _+_, _*_, _-_, _/_, _%_, _^_, _≤_, _<_, min}
+use mathlib.Core.Path.{_≡_, refl, _∙_, ap, ap₂}
+use mathlib.Core.Bool.{true, false}
+use mathlib.Core.List.{[], _∷_}
+use Prim.Native.Nat.{ℕ, zero, suc, _+_, _*_, _/_, _^_, _<_}
 use native.Mathlib.Nat.{div-eq-of-lt, add-div-left, add-mul-div-right, pow-suc}
 use native.Mathlib.Omega.{arith}
 use lib.ListN.{length}
 use lib.Bits.{bitXor, xor-shr}
 use lib.Pow.{pow-pos}
-use lib.IntN.{ℤ, _+ℤ_, +ℤ-idl}
+use lib.IntN.{ℤ, +ℤ-idl}
 use Rattle.gf2.specs.Strings.{BitString, _⊞_}
 use Rattle.gf2.specs.Sums.{sum, sumBelow}
 use Rattle.gf2.specs.Words.{bitOf, odd, highFirst}

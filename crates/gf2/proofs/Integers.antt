@@ -1,5 +1,5 @@
 -- The ring laws of ℤ that the library lacks, and the rule set `ring`, which multiplies out and sorts sums of products.
-use mathlib.Core.Path.{_≡_, refl, sym, _∙_, ap, ap₂}
+use mathlib.Core.Path.{_≡_, sym, _∙_, ap, ap₂}
 use Prim.Native.Nat.{zero, suc}
 use lib.IntN.{ℤ, pos, negsuc, _+ℤ_, _*ℤ_, negℤ, sucℤ, predℤ, one, +ℤ-idl, +ℤ-idr, +ℤ-assoc, +ℤ-comm, +ℤ-invl, +ℤ-invr, negℤ-negℤ, negℤ-+ℤ, zero-*ℤ, *ℤ-zero, *ℤ-one, *ℤ-comm, sucℤ-*ℤ, predℤ-*ℤ, sucℤ-+ℤ, predℤ-+ℤ}
 

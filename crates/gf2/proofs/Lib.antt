@@ -2,6 +2,7 @@ pub mod Integers
 pub mod Bits
 pub mod Strings
 pub mod Sums
+pub mod Bounds
 pub mod Parseval
 pub mod Below
 pub mod Parities

@@ -1,16 +1,16 @@
 -- A word as a bit string with the lowest digit first.
 use mathlib.Core.Path.{_≡_, refl, sym, _∙_, ap, ap₂}
-use mathlib.Core.Bool.{Bool, true, false, not, cond, _&&_}
-use mathlib.Core.List.{List, [], _∷_}
-use Prim.Native.Nat.{ℕ, zero, suc, _+_, _*_, _-_, _/_, _%_, _^_, _≤_, _<_, min}
+use mathlib.Core.Bool.{true, false}
+use mathlib.Core.List.{[], _∷_}
+use Prim.Native.Nat.{ℕ, zero, suc, _+_, _*_, _/_, _%_, _^_, _<_}
 use native.Mathlib.Nat.{div-div-eq-div-mul, div-one}
 use native.Mathlib.Omega.{arith}
 use lib.ListN.{length}
 use lib.Arith.{lt-one}
 use lib.Bits.{bitXor, bitAnd}
 use lib.Count as Count
-use lib.IntN.{ℤ, _+ℤ_, +ℤ-idl}
-use Rattle.gf2.specs.Strings.{BitString, _⊕_, _⊞_, dot, bit}
+use lib.IntN.{ℤ, +ℤ-idl}
+use Rattle.gf2.specs.Strings.{BitString, _⊞_, dot, bit}
 use Rattle.gf2.specs.Sums.{sum, sumBelow}
 use Rattle.gf2.specs.Words.{bitOf, odd, lowFirst}
 use Rattle.gf2.proofs.Digits.{odd-xor, odd-add, odd-zero, odd-and, odd-mod, xor-half, and-half}

@@ -1,14 +1,14 @@
 -- Sums of signs: Σ_v (−1)^(b·v), and Parseval for the Walsh transform.
 use mathlib.Core.Path.{_≡_, refl, sym, _∙_, ap, ap₂}
-use mathlib.Core.Bool.{Bool, true, false, not, cond, _&&_}
-use mathlib.Core.List.{List, [], _∷_}
+use mathlib.Core.Bool.{Bool, true, false, not, cond}
+use mathlib.Core.List.{[], _∷_}
 use Prim.Native.Nat.{ℕ, zero, suc, _^_, _≤_}
 use native.Mathlib.Omega.{arith}
 use lib.ListN.{length}
 use lib.IntN.{ℤ, pos, _+ℤ_, _*ℤ_, negℤ, +ℤ-invr}
-use Rattle.gf2.specs.Strings.{BitString, _⊕_, dot, isZero}
+use Rattle.gf2.specs.Strings.{BitString, dot, isZero}
 use Rattle.gf2.specs.Sums.{sum, sgn}
-use Rattle.gf2.proofs.Integers.{ring, mul-addℤ, neg-mulℤ, *ℤ-assoc, one-*ℤ, square-pair}
+use Rattle.gf2.proofs.Integers.{mul-addℤ, neg-mulℤ, *ℤ-assoc, one-*ℤ, square-pair}
 use Rattle.gf2.proofs.Bits.{sgn-not}
 use Rattle.gf2.proofs.Sums.{sum-ext, sum-add, sum-mul, sum-neg, two-pow}
 

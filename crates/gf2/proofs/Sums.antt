@@ -1,13 +1,13 @@
 -- Sums over all bit strings of a length: linear in the summand, in any order, unchanged by a change of variable.
 use mathlib.Core.Path.{_≡_, refl, sym, _∙_, ap, ap₂}
 use mathlib.Core.Logic.{_≢_}
-use mathlib.Core.Bool.{Bool, true, false, not, cond, _&&_}
-use mathlib.Core.List.{List, [], _∷_}
+use mathlib.Core.Bool.{Bool, true, false, cond}
+use mathlib.Core.List.{[], _∷_}
 use Prim.Native.Nat.{ℕ, zero, suc, _^_, _≤_, _<_}
 use native.Mathlib.Omega.{arith}
 use lib.ListN.{length}
-use lib.IntN.{ℤ, pos, _+ℤ_, _*ℤ_, negℤ, +ℤ-idl, +ℤ-idr, +ℤ-assoc, +ℤ-comm, +ℤ-invr, negℤ-+ℤ, *ℤ-comm}
-use Rattle.gf2.specs.Strings.{BitString, _⊕_, _⊞_, bit, flip, cnot}
+use lib.IntN.{ℤ, pos, _+ℤ_, _*ℤ_, negℤ, +ℤ-comm, +ℤ-invr, negℤ-+ℤ, *ℤ-comm}
+use Rattle.gf2.specs.Strings.{BitString, _⊞_, bit, flip, cnot}
 use Rattle.gf2.specs.Sums.{sum}
 use Rattle.gf2.proofs.Integers.{ring, add-ac, mul-addℤ}
 

@@ -1,7 +1,7 @@
 -- Bits of a word, and the word as a bit string in either order.
 use mathlib.Core.Bool.{Bool, true, false, cond}
 use mathlib.Core.List.{List, [], _∷_, _++_}
-use Prim.Native.Nat.{ℕ, zero, suc, _+_, _*_, _/_, _%_, _^_}
+use Prim.Native.Nat.{ℕ, zero, suc, _+_, _/_, _%_, _^_}
 use lib.Bits.{bitXor}
 use lib.Dec.{ltb}
 use Rattle.gf2.specs.Strings.{BitString}

@@ -1,0 +1,69 @@
+-- What it means that a circuit of m positions has a gate.
+use mathlib.Core.Path.{_≡_, refl, ap}
+use mathlib.Core.Logic.{_≢_}
+use mathlib.Core.Bool.{Bool, true, false, false≢true, not, _&&_}
+use mathlib.Core.List.{List, [], _∷_}
+use Prim.Native.Nat.{ℕ, _≤_}
+use lib.Dec.{eqb, leb}
+use borrow.Author.Tests.{eq-eqb, leb-true}
+use Rattle.circuit.specs.declared.Gate.{Gate}
+use Rattle.circuit.specs.declared.Gate.the-variants.{Ccz, Cz, Cnot}
+use Rattle.circuit.specs.Colours.{numberOf, sameColour}
+use Rattle.circuit.specs.Sum.{isPosition, isGate, areGates}
+
+abbrev pub Position : ℕ → ℕ → Type 0
+Position m p = (1 ≤ p) × (p ≤ m)
+
+-- Positions in range, a CZ's colours different, a CNOT's positions different.
+abbrev pub Valid : ℕ → Gate → Type 0
+Valid m (Ccz i j k) = Position m i × Position m j × Position m k
+Valid m (Cz p q) = Position m (p .position) × Position m (q .position) × (p .colour ≢ q .colour)
+Valid m (Cnot C c t) = Position m c × Position m t × (c ≢ t)
+
+abbrev pub AllValid : ℕ → List Gate → Type 0
+AllValid m [] = Unit {0}
+AllValid m (g ∷ gs) = Valid m g × AllValid m gs
+
+-- ---- the tests and what they tell
+
+pub and-left : (x y : Bool) → x && y ≡ true → x ≡ true
+and-left true y h = refl
+and-left false y h = h
+
+pub and-right : (x y : Bool) → x && y ≡ true → y ≡ true
+and-right true y h = h
+and-right false y h = absurd (false≢true h)
+
+position-of : (m p : ℕ) → isPosition m p ≡ true → Position m p
+unfolding isPosition
+position-of m p h = (leb-true 1 p (and-left (leb 1 p) (leb p m) h), leb-true p m (and-right (leb 1 p) (leb p m) h))
+
+not-false : (b : Bool) → not b ≡ true → b ≡ true → ⊥
+not-false true h e = false≢true h
+not-false false h e = false≢true e
+
+pub valid-of : (m : ℕ) (g : Gate) → isGate m g ≡ true → Valid m g
+unfolding isGate
+valid-of m (Ccz i j k) h =
+    let rest = and-right (isPosition m i) (isPosition m j && isPosition m k) h in (
+      position-of m i (and-left (isPosition m i) (isPosition m j && isPosition m k) h),
+      position-of m j (and-left (isPosition m j) (isPosition m k) rest),
+      position-of m k (and-right (isPosition m j) (isPosition m k) rest),
+    )
+valid-of m (Cz p q) h =
+    let rest = and-right (isPosition m (p .position)) (isPosition m (q .position) && not (sameColour (p .colour) (q .colour))) h in (
+      position-of m (p .position) (and-left (isPosition m (p .position)) (isPosition m (q .position) && not (sameColour (p .colour) (q .colour))) h),
+      position-of m (q .position) (and-left (isPosition m (q .position)) (not (sameColour (p .colour) (q .colour))) rest),
+      λ e. not-false (sameColour (p .colour) (q .colour)) (and-right (isPosition m (q .position)) (not (sameColour (p .colour) (q .colour))) rest) (eq-eqb (numberOf (p .colour)) (numberOf (q .colour)) (ap numberOf e)),
+    )
+valid-of m (Cnot C c t) h =
+    let rest = and-right (isPosition m c) (isPosition m t && not (eqb c t)) h in (
+      position-of m c (and-left (isPosition m c) (isPosition m t && not (eqb c t)) h),
+      position-of m t (and-left (isPosition m t) (not (eqb c t)) rest),
+      λ e. not-false (eqb c t) (and-right (isPosition m t) (not (eqb c t)) rest) (eq-eqb c t e),
+    )
+
+pub all-valid-of : (m : ℕ) (gs : List Gate) → areGates m gs ≡ true → AllValid m gs
+unfolding areGates
+all-valid-of m [] h = tt
+all-valid-of m (g ∷ gs) h = (valid-of m g (and-left (isGate m g) (areGates m gs) h), all-valid-of m gs (and-right (isGate m g) (areGates m gs) h))
