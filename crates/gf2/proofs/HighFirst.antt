@@ -8,7 +8,7 @@ use native.Mathlib.Omega.{arith}
 use lib.ListN.{length}
 use lib.Bits.{bitXor, xor-shr}
 use lib.Pow.{pow-pos}
-use lib.IntN.{ℤ, +ℤ-idl}
+use lib.IntN.{ℤ, _+ℤ_, +ℤ-idl}
 use Rattle.gf2.specs.Strings.{BitString, _⊞_}
 use Rattle.gf2.specs.Sums.{sum, sumBelow}
 use Rattle.gf2.specs.Words.{bitOf, odd, highFirst}

@@ -9,8 +9,8 @@ use lib.ListN.{length}
 use lib.Arith.{lt-one}
 use lib.Bits.{bitXor, bitAnd}
 use lib.Count as Count
-use lib.IntN.{ℤ, +ℤ-idl}
-use Rattle.gf2.specs.Strings.{BitString, _⊞_, dot, bit}
+use lib.IntN.{ℤ, _+ℤ_, +ℤ-idl}
+use Rattle.gf2.specs.Strings.{BitString, _⊕_, _⊞_, dot, bit}
 use Rattle.gf2.specs.Sums.{sum, sumBelow}
 use Rattle.gf2.specs.Words.{bitOf, odd, lowFirst}
 use Rattle.gf2.proofs.Digits.{odd-xor, odd-add, odd-zero, odd-and, odd-mod, xor-half, and-half}

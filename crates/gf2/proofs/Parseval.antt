@@ -6,7 +6,7 @@ use Prim.Native.Nat.{ℕ, zero, suc, _^_, _≤_}
 use native.Mathlib.Omega.{arith}
 use lib.ListN.{length}
 use lib.IntN.{ℤ, pos, _+ℤ_, _*ℤ_, negℤ, +ℤ-invr}
-use Rattle.gf2.specs.Strings.{BitString, dot, isZero}
+use Rattle.gf2.specs.Strings.{BitString, _⊕_, dot, isZero}
 use Rattle.gf2.specs.Sums.{sum, sgn}
 use Rattle.gf2.proofs.Integers.{mul-addℤ, neg-mulℤ, *ℤ-assoc, one-*ℤ, square-pair}
 use Rattle.gf2.proofs.Bits.{sgn-not}

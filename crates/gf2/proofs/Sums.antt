@@ -7,7 +7,7 @@ use Prim.Native.Nat.{ℕ, zero, suc, _^_, _≤_, _<_}
 use native.Mathlib.Omega.{arith}
 use lib.ListN.{length}
 use lib.IntN.{ℤ, pos, _+ℤ_, _*ℤ_, negℤ, +ℤ-comm, +ℤ-invr, negℤ-+ℤ, *ℤ-comm}
-use Rattle.gf2.specs.Strings.{BitString, _⊞_, bit, flip, cnot}
+use Rattle.gf2.specs.Strings.{BitString, _⊕_, _⊞_, bit, flip, cnot}
 use Rattle.gf2.specs.Sums.{sum}
 use Rattle.gf2.proofs.Integers.{ring, add-ac, mul-addℤ}
 
