@@ -1,6 +1,6 @@
 -- Laws of the three colours: their numbers, the third beside two others, and what each of them has.
 use mathlib.Core.Path.{_≡_, refl}
-use mathlib.Core.Bool.{true, false, cond}
+use mathlib.Core.Bool.{false, cond}
 use Prim.Native.Nat.{ℕ, zero, suc, _+_, _≤_, _<_}
 use native.Mathlib.Omega.{arith}
 use Rattle.circuit.specs.declared.Colour.{Colour}
