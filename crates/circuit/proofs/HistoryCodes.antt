@@ -38,9 +38,6 @@ gateOf-packed : (kind a b c : ℕ) → a < 32 → b < 32 → c < 32 → gateOf (
 unfolding gateOf packed
 gateOf-packed kind a b c ha hb hc = rw (mod-eq-of-lt ha, mod-eq-of-lt hb, mod-eq-of-lt hc, top, high, low, last)
   where
-    n : ℕ
-    n = kind * 32768 + a * 1024 + b * 32 + c
-
     top : (kind * 32768 + a * 1024 + b * 32 + c) / 32768 ≡ kind
     top = omega arith
 

@@ -1,3 +1,6 @@
 pub mod Colours
 pub mod Gates
 pub mod HistoryCodes
+pub mod Terms
+pub mod Stores
+pub mod PolynomialWords

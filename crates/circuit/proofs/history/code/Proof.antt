@@ -1,6 +1,6 @@
 -- Each kind of gate is a case of `codeOf`.
 use native.Mathlib.Omega.{arith}
-use Rattle.circuit.specs.History.{packed, codeOf}
+use Rattle.circuit.specs.History.{codeOf}
 use Rattle.circuit.proofs.HistoryCodes.{cnot-kind}
 use borrow.Author.Needs.{needs}
 use Rattle.circuit.proofs.history.code.Statement.{statement}
