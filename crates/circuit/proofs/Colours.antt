@@ -12,12 +12,6 @@ number-lt Red = omega arith
 number-lt Blue = omega arith
 number-lt Green = omega arith
 
--- A colour is that of its number.
-pub colour-number : (c : Colour) → colourOf (numberOf c) ≡ c
-colour-number Red = refl
-colour-number Blue = refl
-colour-number Green = refl
-
 -- From 2 on there is only green.
 pub colour-last : (n : ℕ) → 2 ≤ n → colourOf n ≡ Green
 colour-last zero h = absurd (omega arith)

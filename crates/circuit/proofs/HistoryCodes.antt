@@ -50,7 +50,8 @@ gateOf-packed kind a b c ha hb hc = rw (mod-eq-of-lt ha, mod-eq-of-lt hb, mod-eq
     last : (kind * 32768 + a * 1024 + b * 32 + c) % 32 ≡ c
     last = omega arith
 
-kind-of-cz : (C D : Colour) (a b : ℕ) → gateOfKind (1 + numberOf C * 3 + numberOf D) a b 0 ≡ Cz (record { colour = C; position = a }) (record { colour = D; position = b })
+kind-of-cz : (C D : Colour) (a b : ℕ)
+    → gateOfKind (1 + numberOf C * 3 + numberOf D) a b 0 ≡ Cz (record { colour = C; position = a }) (record { colour = D; position = b })
 unfolding gateOfKind
 kind-of-cz Red Red a b = refl
 kind-of-cz Red Blue a b = refl
@@ -75,7 +76,8 @@ gateOf-codeOf (Ccz i j k) h =
     gateOf-packed 0 i j k (omega arith) (omega arith) (omega arith)
 gateOf-codeOf (Cz p q) h =
     let l = cz-positions 16 p q h in
-    gateOf-packed (1 + numberOf (p .colour) * 3 + numberOf (q .colour)) (p .position) (q .position) 0 (omega arith) (omega arith) (omega arith)
+    gateOf-packed (1 + numberOf (p .colour) * 3 + numberOf (q .colour)) (p .position) (q .position) 0
+    (omega arith) (omega arith) (omega arith)
     ∙ kind-of-cz (p .colour) (q .colour) (p .position) (q .position)
 gateOf-codeOf (Cnot C c t) h =
     let l = cnot-positions 16 C c t h in

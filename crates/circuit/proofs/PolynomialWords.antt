@@ -17,11 +17,9 @@ use Rattle.gf2.proofs.Bits.{and-assoc, and-comm}
 use Rattle.gf2.proofs.Tables.{length-tabulate, getD-tabulate, tabulate-unique}
 use Rattle.gf2.proofs.WordBits.{bitAt-zero, bitAt-pow, bitAt-wordOf-lt, wordOf-cong, wordOf-unique, wordOf-xor}
 use Rattle.circuit.specs.declared.Colour.the-variants.{Red, Blue, Green}
-use Rattle.circuit.specs.declared.Gate.{Gate}
 use Rattle.circuit.specs.Colours.{the, first, second, join, put}
-use Rattle.circuit.specs.Sum.{isGate}
-use Rattle.circuit.specs.Polynomial.{Polynomial, term, sameTerm, empty, toggled, substituted, applied}
-use Rattle.circuit.specs.Words.{wordsOf, taken}
+use Rattle.circuit.specs.Polynomial.{Polynomial, term, sameTerm, empty, toggled, substituted}
+use Rattle.circuit.specs.Words.{wordsOf}
 use Rattle.circuit.proofs.Stores.{stored, length-stored, stored-at, stored-added}
 
 -- ---- words made from their bits
@@ -54,6 +52,9 @@ word-at f i j hi hj =
 
     column : (17 * i + j) % 17 ≡ j
     column = omega arith
+
+pub bit-at : (f : Polynomial) (i j k : ℕ) → i ≤ 16 → j ≤ 16 → k ≤ 16 → bitAt (getD (wordsOf f) (17 * i + j) 0) k ≡ f (term i j k)
+bit-at f i j k hi hj hk = ap (λ (w : ℕ). bitAt w k) (word-at f i j hi hj) ∙ bitAt-wordOf-lt 17 (λ n. f (term i j n)) k (omega arith)
 
 -- Words that are made from the terms of f are the words of f.
 pub words-unique : (f : Polynomial) (ws : List ℕ) → length ws ≡ 289
@@ -109,7 +110,8 @@ pub toggled-words : (f : Polynomial) (i j k : ℕ) → i ≤ 16 → j ≤ 16 →
     → set (wordsOf f) (17 * i + j) (toggledAt 32 (getD (wordsOf f) (17 * i + j) 0) k) ≡ wordsOf (toggled (term i j k) f)
 unfolding toggledAt toggled sameTerm term
 toggled-words f i j k hi hj hk =
-    ap (λ (b : Bool). set ws (17 * i + j) (cond b (bitXor (getD ws (17 * i + j) 0) (2 ^ k)) (getD ws (17 * i + j) 0))) (lt-ltb k 32 (omega arith))
+    ap (λ (b : Bool). set ws (17 * i + j) (cond b (bitXor (getD ws (17 * i + j) 0) (2 ^ k)) (getD ws (17 * i + j) 0)))
+    (lt-ltb k 32 (omega arith))
     ∙ words-added f (λ h. sameTerm h (term i j k)) (set ws (17 * i + j) (bitXor (getD ws (17 * i + j) 0) (2 ^ k)))
     (length-set ws (17 * i + j) (bitXor (getD ws (17 * i + j) 0) (2 ^ k)) ∙ length-words f)
     (λ a b ha hb.
@@ -122,7 +124,8 @@ toggled-words f i j k hi hj hk =
     mask a b hb =
         ap₂ (λ (x : Bool) (w : ℕ). cond x w 0) (eqb-place a b i j hb hj) (sym (wordOf-one 17 k (omega arith)))
         ∙ sym (wordOf-and 17 (eqb a i && eqb b j) (λ n. eqb n k))
-        ∙ wordOf-cong 17 (λ n. (eqb a i && eqb b j) && eqb n k) (λ n. eqb a i && (eqb b j && eqb n k)) (λ n l. and-assoc (eqb a i) (eqb b j) (eqb n k))
+        ∙ wordOf-cong 17 (λ n. (eqb a i && eqb b j) && eqb n k) (λ n. eqb a i && (eqb b j && eqb n k))
+        (λ n l. and-assoc (eqb a i) (eqb b j) (eqb n k))
 
 -- ---- a CNOT, by the loop that adds its terms
 
@@ -136,9 +139,11 @@ red-words f c t hc ht =
     words-added f (λ h. eqb (h .red) c && f (term t (h .blue) (h .green))) (rowAdded c t 17 ws)
     (length-stored (λ j. 17 * c + j) (λ j. bitXor (getD ws (17 * c + j) 0) (getD ws (17 * t + j) 0)) ws 17 ∙ length-words f)
     (λ i j hi hj.
-    stored-added (λ j. 17 * c + j) (λ j. getD ws (17 * t + j) 0) ws (λ a b e. omega arith) 17 j (17 * i + j) (eqb i c) (omega arith) (omega (arith, length-words f))
+    stored-added (λ j. 17 * c + j) (λ j. getD ws (17 * t + j) 0) ws (λ a b e. omega arith)
+    17 j (17 * i + j) (eqb i c) (omega arith) (omega (arith, length-words f))
     (λ e. ap (λ (x : ℕ). 17 * x + j) (eqb-true i c e)) (λ e k l q. eqb-false i c e (omega arith))
-    ∙ ap (bitXor (getD ws (17 * i + j) 0)) (ap (λ (w : ℕ). cond (eqb i c) w 0) (word-at f t j ht hj) ∙ sym (wordOf-and 17 (eqb i c) (λ k. f (term t j k)))))
+    ∙ ap (bitXor (getD ws (17 * i + j) 0))
+    (ap (λ (w : ℕ). cond (eqb i c) w 0) (word-at f t j ht hj) ∙ sym (wordOf-and 17 (eqb i c) (λ k. f (term t j k)))))
   where
     ws : List ℕ
     ws = wordsOf f
@@ -153,9 +158,11 @@ blue-words f c t hc ht =
     words-added f (λ h. eqb (h .blue) c && f (term (h .red) t (h .green))) (columnAdded c t 17 ws)
     (length-stored (λ i. 17 * i + c) (λ i. bitXor (getD ws (17 * i + c) 0) (getD ws (17 * i + t) 0)) ws 17 ∙ length-words f)
     (λ i j hi hj.
-    stored-added (λ i. 17 * i + c) (λ i. getD ws (17 * i + t) 0) ws (λ a b e. omega arith) 17 i (17 * i + j) (eqb j c) (omega arith) (omega (arith, length-words f))
+    stored-added (λ i. 17 * i + c) (λ i. getD ws (17 * i + t) 0) ws (λ a b e. omega arith)
+    17 i (17 * i + j) (eqb j c) (omega arith) (omega (arith, length-words f))
     (λ e. ap (λ (x : ℕ). 17 * i + x) (eqb-true j c e)) (λ e k l q. eqb-false j c e (omega arith))
-    ∙ ap (bitXor (getD ws (17 * i + j) 0)) (ap (λ (w : ℕ). cond (eqb j c) w 0) (word-at f i t hi ht) ∙ sym (wordOf-and 17 (eqb j c) (λ k. f (term i t k)))))
+    ∙ ap (bitXor (getD ws (17 * i + j) 0))
+    (ap (λ (w : ℕ). cond (eqb j c) w 0) (word-at f i t hi ht) ∙ sym (wordOf-and 17 (eqb j c) (λ k. f (term i t k)))))
   where
     ws : List ℕ
     ws = wordsOf f
@@ -170,7 +177,8 @@ green-words f c t hc ht =
     words-added f (λ h. eqb (h .green) c && f (term (h .red) (h .blue) t)) (bitsAdded c t 289 ws)
     (length-stored (λ w. w) (λ w. bitXor (getD ws w 0) (cond (bitAt (getD ws w 0) t) (2 ^ c) 0)) ws 289 ∙ length-words f)
     (λ i j hi hj.
-    stored-at (λ w. w) (λ w. bitXor (getD ws w 0) (cond (bitAt (getD ws w 0) t) (2 ^ c) 0)) ws (λ a b e. e) 289 (17 * i + j) (omega arith) (omega (arith, length-words f))
+    stored-at (λ w. w) (λ w. bitXor (getD ws w 0) (cond (bitAt (getD ws w 0) t) (2 ^ c) 0)) ws (λ a b e. e)
+    289 (17 * i + j) (omega arith) (omega (arith, length-words f))
     ∙ ap (bitXor (getD ws (17 * i + j) 0)) (mask i j hi hj))
   where
     ws : List ℕ
@@ -178,9 +186,7 @@ green-words f c t hc ht =
 
     mask : (i j : ℕ) → i ≤ 16 → j ≤ 16 → cond (bitAt (getD ws (17 * i + j) 0) t) (2 ^ c) 0 ≡ wordOf 17 (λ k. eqb k c && f (term i j t))
     mask i j hi hj =
-        ap₂ (λ (b : Bool) (w : ℕ). cond b w 0)
-        (ap (λ (w : ℕ). bitAt w t) (word-at f i j hi hj) ∙ bitAt-wordOf-lt 17 (λ k. f (term i j k)) t (omega arith))
-        (sym (wordOf-one 17 c (omega arith)))
+        ap₂ (λ (b : Bool) (w : ℕ). cond b w 0) (bit-at f i j t hi hj ht) (sym (wordOf-one 17 c (omega arith)))
         ∙ sym (wordOf-and 17 (f (term i j t)) (λ k. eqb k c))
         ∙ wordOf-cong 17 (λ k. f (term i j t) && eqb k c) (λ k. eqb k c && f (term i j t)) (λ k l. and-comm (f (term i j t)) (eqb k c))
 
@@ -196,13 +202,3 @@ moved-bit w t c hc =
     digit zero h = zero-mul (2 ^ c)
     digit (suc zero) h = one-mul (2 ^ c)
     digit (suc (suc d)) h = absurd (omega arith)
-
--- ---- a gate
-
-pub taken-gate : (g : Gate) (f : Polynomial) → isGate 16 g ≡ true → taken g f ≡ applied g f
-unfolding taken
-taken-gate g f h = ap (λ (b : Bool). cond b (applied g f) f) h
-
-pub taken-other : (g : Gate) (f : Polynomial) → isGate 16 g ≡ false → taken g f ≡ f
-unfolding taken
-taken-other g f h = ap (λ (b : Bool). cond b (applied g f) f) h

@@ -81,6 +81,7 @@ pub fn is_position(m: usize, p: usize) -> bool
     p <= m
 }
 
+// One position of each colour.
 fn is_ccz(m: usize, i: usize, j: usize, k: usize) -> bool
     ensures { λ r. ⌜ r ≡ isGate m (Gate.Ccz i j k) ⌝ }
 {
@@ -93,6 +94,7 @@ fn is_ccz(m: usize, i: usize, j: usize, k: usize) -> bool
     is_position(m, k)
 }
 
+// Positions of two different colours.
 fn is_cz(m: usize, p: Spot, q: Spot) -> bool
     ensures { λ r. ⌜ r ≡ isGate m (Gate.Cz p q) ⌝ }
 {
@@ -107,6 +109,7 @@ fn is_cz(m: usize, p: Spot, q: Spot) -> bool
     !same_colour(a, b)
 }
 
+// Two different positions of one colour.
 fn is_cnot(m: usize, colour: Colour, c: usize, t: usize) -> bool
     ensures { λ r. ⌜ r ≡ isGate m (Gate.Cnot colour c t) ⌝ }
 {

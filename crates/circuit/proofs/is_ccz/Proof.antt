@@ -18,14 +18,22 @@ is-position-requires-2 c κs = search needs
 
 returns-2 : tie.Need-returns-2
 unfolding isGate
-returns-2 c = rw (sym (c .before .before .before .is-position .ensures) ∙ not-false _ (c .before .before .if1 .left), sym (c .before .is-position2 .ensures) ∙ not-true _ (c .if2 .taken))
+returns-2 c =
+    rw (
+      sym (c .before .before .before .is-position .ensures) ∙ not-false _ (c .before .before .if1 .left),
+      sym (c .before .is-position2 .ensures) ∙ not-true _ (c .if2 .taken),
+    )
 
 is-position-requires-3 : tie.Need-is-position-requires-3
 is-position-requires-3 c κs = search needs
 
 returns-3 : tie.Need-returns-3
 unfolding isGate
-returns-3 c = rw (sym (c .before .before .before .before .is-position .ensures) ∙ not-false _ (c .before .before .before .if1 .left), sym (c .before .before .is-position2 .ensures) ∙ not-false _ (c .before .if2 .left)) (c .is-position3 .ensures)
+returns-3 c =
+    rw (
+      sym (c .before .before .before .before .is-position .ensures) ∙ not-false _ (c .before .before .before .if1 .left),
+      sym (c .before .before .is-position2 .ensures) ∙ not-false _ (c .before .if2 .left),
+    ) (c .is-position3 .ensures)
 
 pub is-ccz-spec : {M : Type 1} → statement M
 is-ccz-spec =

@@ -18,11 +18,19 @@ is-position-requires-2 c κs = search needs
 
 returns-2 : tie.Need-returns-2
 unfolding isGate
-returns-2 c = rw (sym (c .before .before .before .is-position .ensures) ∙ not-false _ (c .before .before .if1 .left), sym (c .before .is-position2 .ensures) ∙ not-true _ (c .if2 .taken))
+returns-2 c =
+    rw (
+      sym (c .before .before .before .is-position .ensures) ∙ not-false _ (c .before .before .if1 .left),
+      sym (c .before .is-position2 .ensures) ∙ not-true _ (c .if2 .taken),
+    )
 
 returns-3 : tie.Need-returns-3
 unfolding isGate
-returns-3 c = rw (sym (c .before .before .before .is-position .ensures) ∙ not-false _ (c .before .before .if1 .left), sym (c .before .is-position2 .ensures) ∙ not-false _ (c .if2 .left))
+returns-3 c =
+    rw (
+      sym (c .before .before .before .is-position .ensures) ∙ not-false _ (c .before .before .if1 .left),
+      sym (c .before .is-position2 .ensures) ∙ not-false _ (c .if2 .left),
+    )
 
 pub is-cnot-spec : {M : Type 1} → statement M
 is-cnot-spec =

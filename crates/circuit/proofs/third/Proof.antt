@@ -22,7 +22,8 @@ colour-of-requires c κs = search needs
 
 returns : tie.Need-returns
 returns c =
-    let none : 0 ≡ 3 - (numberOf (c .before .before .before .before .args .a) + numberOf (c .before .before .before .before .args .b)) = omega arith in
+    let args = c .before .before .before .before .args in
+    let none : 0 ≡ 3 - (numberOf (args .a) + numberOf (args .b)) = omega arith in
     c .colour-of .ensures ∙ ap colourOf none
 
 colour-of-requires-2 : tie.Need-colour-of-requires-2

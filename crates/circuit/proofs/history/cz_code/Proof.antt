@@ -30,8 +30,9 @@ packed-requires c κs = omega (arith, cz-kind (c .before .before .args .p .colou
 returns : tie.Need-returns
 unfolding codeOf
 returns c =
+    let args = c .before .before .before .args in
     c .packed .ensures
-    ∙ ap₂ (λ (x y : ℕ). packed (1 + x * 3 + y) (c .before .before .before .args .p .position) (c .before .before .before .args .q .position) 0)
+    ∙ ap₂ (λ (x y : ℕ). packed (1 + x * 3 + y) (args .p .position) (args .q .position) 0)
     (c .before .before .number-of .ensures) (c .before .number-of2 .ensures)
 
 pub cz-code-spec : {M : Type 1} → statement M

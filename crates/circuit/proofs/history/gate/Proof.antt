@@ -17,7 +17,13 @@ colour-of-requires-2 c κs = search needs
 
 returns-2 : tie.Need-returns-2
 unfolding gateOf gateOfKind
-returns-2 c = rw (c .before .colour-of .ensures, c .colour-of2 .ensures, le-ltb _ _ (c .before .before .before .if1 .left), lt-ltb _ _ (c .before .before .if2 .taken))
+returns-2 c =
+    rw (
+      c .before .colour-of .ensures,
+      c .colour-of2 .ensures,
+      le-ltb _ _ (c .before .before .before .if1 .left),
+      lt-ltb _ _ (c .before .before .if2 .taken),
+    )
 
 colour-of-requires-3 : tie.Need-colour-of-requires-3
 colour-of-requires-3 c κs = search needs

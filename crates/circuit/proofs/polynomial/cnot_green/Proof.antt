@@ -53,17 +53,19 @@ loop-less c = search needs
 
 loop-again : tie.Need-loop-again Inv-loop μ-loop
 unfolding stored
-loop-again c = (
-  omega arith,
-  rw (add-one, moved-bit (getD (c .before .before .args .t1) (c .before .loop .n) 0) (c .before .before .args .t) (c .before .before .args .c) (c .before .before .pre .0), c .before .loop .inv .1),
-)
+loop-again c =
+    let args = c .before .before .args in
+    let w = getD (args .t1) (c .before .loop .n) 0 in
+    (omega arith, rw (add-one, moved-bit w (args .t) (args .c) (c .before .before .pre .0), c .before .loop .inv .1))
 
 returns : tie.Need-returns Inv-loop μ-loop
 returns c =
+    let args = c .before .before .args in
+    let pre = c .before .before .pre in
     let done : c .before .loop .n ≡ 289 = omega arith in
     λ f e.
-    c .before .loop .inv .1 ∙ ap₂ (λ (n : ℕ) (ws : List ℕ). bitsAdded (c .before .before .args .c) (c .before .before .args .t) n ws) done e
-    ∙ green-words f (c .before .before .args .c) (c .before .before .args .t) (c .before .before .pre .0) (c .before .before .pre .1)
+    c .before .loop .inv .1 ∙ ap₂ (λ (n : ℕ) (ws : List ℕ). bitsAdded (args .c) (args .t) n ws) done e
+    ∙ green-words f (args .c) (args .t) (pre .0) (pre .1)
 
 pub cnot-green-spec : {M : Type 1} → statement M
 cnot-green-spec =

@@ -68,10 +68,12 @@ loop-again c = (omega arith, rw (add-one, c .before .loop .inv .1))
 
 returns : tie.Need-returns Inv-loop μ-loop
 returns c =
+    let args = c .before .before .args in
+    let pre = c .before .before .pre in
     let done : c .before .loop .j ≡ 17 = omega arith in
     λ f e.
-    c .before .loop .inv .1 ∙ ap₂ (λ (n : ℕ) (ws : List ℕ). rowAdded (c .before .before .args .c) (c .before .before .args .t) n ws) done e
-    ∙ red-words f (c .before .before .args .c) (c .before .before .args .t) (c .before .before .pre .0) (c .before .before .pre .1)
+    c .before .loop .inv .1 ∙ ap₂ (λ (n : ℕ) (ws : List ℕ). rowAdded (args .c) (args .t) n ws) done e
+    ∙ red-words f (args .c) (args .t) (pre .0) (pre .1)
 
 pub cnot-red-spec : {M : Type 1} → statement M
 cnot-red-spec =

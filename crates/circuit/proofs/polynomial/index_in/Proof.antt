@@ -19,11 +19,24 @@ same-colour-requires-2 c κs = search needs
 
 returns-2 : tie.Need-returns-2
 unfolding pair
-returns-2 c = rw (the-put, sym (c .before .before .before .same-colour .ensures) ∙ c .before .before .if1 .left, the-put, sym (c .before .same-colour2 .ensures) ∙ c .if2 .taken)
+returns-2 c =
+    rw (
+      the-put,
+      sym (c .before .before .before .same-colour .ensures) ∙ c .before .before .if1 .left,
+      the-put,
+      sym (c .before .same-colour2 .ensures) ∙ c .if2 .taken,
+    )
 
 returns-3 : tie.Need-returns-3
 unfolding pair
-returns-3 c = rw (the-put, sym (c .before .before .before .same-colour .ensures) ∙ c .before .before .if1 .left, the-put, sym (c .before .same-colour2 .ensures) ∙ c .if2 .left) (no-index (c .before .before .before .before .args .colour))
+returns-3 c =
+    rw (
+      the-put,
+      sym (c .before .before .before .same-colour .ensures) ∙ c .before .before .if1 .left,
+      the-put,
+      sym (c .before .same-colour2 .ensures) ∙ c .if2 .left,
+    )
+    (no-index (c .before .before .before .before .args .colour))
 
 pub index-in-spec : {M : Type 1} → statement M
 index-in-spec =

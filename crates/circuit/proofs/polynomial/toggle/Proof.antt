@@ -37,10 +37,14 @@ array-write-next : tie.Need-array-write-next
 array-write-next c = search needs
 
 returns : tie.Need-returns
-returns c = λ f e.
-    ap (set (c .before .args .t1) (17 * c .before .args .i + c .before .args .j)) (c .toggle .ensures)
-    ∙ ap (λ (ws : List ℕ). set ws (17 * c .before .args .i + c .before .args .j) (toggledAt 32 (getD ws (17 * c .before .args .i + c .before .args .j) 0) (c .before .args .k))) e
-    ∙ toggled-words f (c .before .args .i) (c .before .args .j) (c .before .args .k) (c .before .pre .0) (c .before .pre .1) (c .before .pre .2)
+returns c =
+    let args = c .before .args in
+    let pre = c .before .pre in
+    let at = 17 * args .i + args .j in
+    λ f e.
+    ap (set (args .t1) at) (c .toggle .ensures)
+    ∙ ap (λ (ws : List ℕ). set ws at (toggledAt 32 (getD ws at 0) (args .k))) e
+    ∙ toggled-words f (args .i) (args .j) (args .k) (pre .0) (pre .1) (pre .2)
 
 pub toggle-spec : {M : Type 1} → statement M
 toggle-spec =

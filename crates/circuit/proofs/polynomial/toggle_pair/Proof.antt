@@ -20,15 +20,20 @@ index-in-requires-3 c κs = search needs
 
 toggle-requires : tie.Need-toggle-requires
 toggle-requires c κs =
-    let le = pair-index-le 16 (c .before .before .before .args .p) (c .before .before .before .args .q) (c .before .before .before .pre .0) (c .before .before .before .pre .1) in
+    let start = c .before .before .before in
+    let le = pair-index-le 16 (start .args .p) (start .args .q) (start .pre .0) (start .pre .1) in
     (omega (arith, le Red), omega (arith, le Blue), omega (arith, le Green))
 
 returns : tie.Need-returns
-returns c = λ f e.
+returns c =
+    let red = c .before .before .before .index-in in
+    let blue = c .before .before .index-in2 in
+    let green = c .before .index-in3 in
+    let args = c .before .before .before .before .args in
+    λ f e.
     c .toggle .ensures f e
     ∙ ap (λ (h : Term). wordsOf (toggled h f))
-    (term-unique (pair (c .before .before .before .before .args .p) (c .before .before .before .before .args .q)) (c .before .before .before .index-in .result) (c .before .before .index-in2 .result) (c .before .index-in3 .result)
-    (c .before .before .before .index-in .ensures) (c .before .before .index-in2 .ensures) (c .before .index-in3 .ensures))
+    (term-unique (pair (args .p) (args .q)) (red .result) (blue .result) (green .result) (red .ensures) (blue .ensures) (green .ensures))
 
 pub toggle-pair-spec : {M : Type 1} → statement M
 toggle-pair-spec =
