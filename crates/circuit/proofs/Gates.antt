@@ -6,6 +6,8 @@ use mathlib.Core.List.{List, [], _∷_}
 use Prim.Native.Nat.{ℕ, _≤_}
 use lib.Dec.{eqb, leb}
 use borrow.Author.Tests.{eq-eqb, leb-true}
+use Rattle.circuit.specs.declared.Colour.{Colour}
+use Rattle.circuit.specs.declared.Spot.{Spot}
 use Rattle.circuit.specs.declared.Gate.{Gate}
 use Rattle.circuit.specs.declared.Gate.the-variants.{Ccz, Cz, Cnot}
 use Rattle.circuit.specs.Colours.{numberOf, sameColour}
@@ -67,3 +69,14 @@ pub all-valid-of : (m : ℕ) (gs : List Gate) → areGates m gs ≡ true → All
 unfolding areGates
 all-valid-of m [] h = tt
 all-valid-of m (g ∷ gs) h = (valid-of m g (and-left (isGate m g) (areGates m gs) h), all-valid-of m gs (and-right (isGate m g) (areGates m gs) h))
+
+-- ---- positions are at most m
+
+pub ccz-positions : (m i j k : ℕ) → isGate m (Ccz i j k) ≡ true → (i ≤ m) × (j ≤ m) × (k ≤ m)
+ccz-positions m i j k h = let v = valid-of m (Ccz i j k) h in (v .0 .1, v .1 .1, v .2 .1)
+
+pub cz-positions : (m : ℕ) (p q : Spot) → isGate m (Cz p q) ≡ true → (p .position ≤ m) × (q .position ≤ m)
+cz-positions m p q h = let v = valid-of m (Cz p q) h in (v .0 .1, v .1 .1)
+
+pub cnot-positions : (m : ℕ) (C : Colour) (c t : ℕ) → isGate m (Cnot C c t) ≡ true → (c ≤ m) × (t ≤ m)
+cnot-positions m C c t h = let v = valid-of m (Cnot C c t) h in (v .0 .1, v .1 .1)

@@ -5,3 +5,8 @@ pub mod Value
 pub mod Phase
 pub mod SignedSum
 pub mod Undo
+pub mod Colours
+pub mod HistoryCodes
+pub mod Terms
+pub mod Stores
+pub mod PolynomialWords

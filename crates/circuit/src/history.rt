@@ -13,19 +13,25 @@ fn packed(kind: usize, a: usize, b: usize, c: usize) -> u32
     (kind * 32768 + a % 32 * 1024 + b % 32 * 32 + c % 32) as u32
 }
 
+fn cz_code(p: Spot, q: Spot) -> u32
+    ensures { λ r. ⌜ r ≡ codeOf (Gate.Cz p q) ⌝ }
+{
+    let a = p.colour;
+    let b = q.colour;
+    packed(
+        1 + crate::number_of(a) * 3 + crate::number_of(b),
+        p.position,
+        q.position,
+        0,
+    )
+}
+
 pub fn code(g: Gate) -> u32
     ensures { λ r. ⌜ r ≡ codeOf g ⌝ }
 {
     match g {
         Gate::Ccz(i, j, k) => packed(0, i, j, k),
-        Gate::Cz(p, q) => {
-            packed(
-                1 + crate::number_of(p.colour) * 3 + crate::number_of(q.colour),
-                p.position,
-                q.position,
-                0,
-            )
-        }
+        Gate::Cz(p, q) => cz_code(p, q),
         Gate::Cnot(colour, c, t) => packed(10 + crate::number_of(colour), c, t, 0),
     }
 }

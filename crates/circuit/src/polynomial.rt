@@ -1,6 +1,7 @@
 // The phase polynomial in words: bit k of word 17 i + j is the term with the indices i, j, k in red, blue and green, index 0
 // for a colour that the term has no position of.
 ghost use mathlib.Core.Path.{_≡_};
+ghost use Rattle.circuit.specs.Colours.{the};
 ghost use Rattle.circuit.specs.Polynomial.{Polynomial, term, pair, empty, toggled, substituted};
 ghost use Rattle.circuit.specs.Words.{wordsOf, taken};
 ghost use Prim.Native.Nat.{_≤_};
@@ -25,11 +26,15 @@ fn toggle(words: [u32; 289], i: usize, j: usize, k: usize) -> [u32; 289]
 }
 
 // The index that a pair of positions has in a colour: 0 where neither is of that colour.
-fn index_in(colour: Colour, p: Spot, q: Spot) -> usize {
-    if crate::same_colour(colour, p.colour) {
+fn index_in(colour: Colour, p: Spot, q: Spot) -> usize
+    ensures { λ r. ⌜ r ≡ the colour (pair p q) ⌝ }
+{
+    let a = p.colour;
+    if crate::same_colour(colour, a) {
         return p.position;
     }
-    if crate::same_colour(colour, q.colour) {
+    let b = q.colour;
+    if crate::same_colour(colour, b) {
         return q.position;
     }
     0
