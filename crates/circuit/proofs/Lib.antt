@@ -1,0 +1,4 @@
+pub mod Concat
+pub mod Entries
+pub mod Cells
+pub mod TermGates

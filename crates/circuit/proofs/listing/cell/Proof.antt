@@ -1,0 +1,47 @@
+-- A cell's word stands below 17 times 17, since its two indices are at most 16.
+use mathlib.Core.Path.{_≡_, sym, _∙_, ap₂}
+use Prim.Native.Nat.{ℕ, _≤_, _+_, _*_}
+use native.Mathlib.Omega.{arith}
+use borrow.Author.Needs.{needs}
+use Rattle.circuit.specs.Cells.{cellRed, cellBlue, cellMask, cellWord}
+use Rattle.circuit.proofs.Cells.{cellRed-le, cellBlue-le}
+use Rattle.circuit.proofs.listing.cell.Statement.{statement}
+use Rattle.circuit.proofs.listing.cell.Tie as tie
+
+red-of-requires : tie.Need-red-of-requires
+red-of-requires c κs = search needs
+
+mul-result : tie.Need-mul-result
+mul-result c = omega (arith, cellRed-le (c .before .args .n) (c .before .pre))
+
+blue-of-requires : tie.Need-blue-of-requires
+blue-of-requires c κs = search needs
+
+add-result : tie.Need-add-result
+add-result c = omega (arith, cellRed-le (c .before .before .args .n) (c .before .before .pre), cellBlue-le (c .before .before .args .n) (c .before .before .pre))
+
+mul-result-2 : tie.Need-mul-result-2
+mul-result-2 c = omega (arith, cellRed-le (c .before .before .args .n) (c .before .before .pre), cellBlue-le (c .before .before .args .n) (c .before .before .pre))
+
+array-read-result : tie.Need-array-read-result
+array-read-result c = omega (arith, cellRed-le (c .before .before .args .n) (c .before .before .pre), cellBlue-le (c .before .before .args .n) (c .before .before .pre))
+
+mask-of-requires : tie.Need-mask-of-requires
+mask-of-requires c κs = search needs
+
+returns : tie.Need-returns
+unfolding cellWord
+returns c = rw (← (c .mask-of .ensures), ← (c .before .blue-of .ensures), ← (c .before .before .red-of .ensures))
+
+pub cell-spec : {M : Type 1} → statement M
+cell-spec =
+    tie.close
+    (tie.spec
+    red-of-requires
+    mul-result
+    blue-of-requires
+    add-result
+    mul-result-2
+    array-read-result
+    mask-of-requires
+    returns)
