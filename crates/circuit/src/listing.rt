@@ -57,9 +57,9 @@ fn mask_of(n: usize) -> u32
 }
 
 // The terms of cell `n`, a bit for each.
-fn cell(words: [u32; 289], n: usize) -> u32
+fn cell(words: &[u32; 289], n: usize) -> u32
     requires { ⌜ n < 544 ⌝ }
-    ensures { λ r. ⌜ r ≡ cellWord words n ⌝ }
+    ensures { λ r. ⌜ r ≡ cellWord (now (words .entry)) n ⌝ }
 {
     words[17 * red_of(n) + blue_of(n)] & mask_of(n)
 }
@@ -71,16 +71,16 @@ pub fn count(words: [u32; 289]) -> usize
     let mut total: usize = 0;
     let mut n = 0;
     while n < 544 {
-        total += u32::count_ones(cell(words, n)) as usize;
+        total += u32::count_ones(cell(&words, n)) as usize;
         n += 1;
     }
     total
 }
 
 // Where place `n` of the listing is; a place past its end is past the end of the last cell.
-fn find(words: [u32; 289], n: usize) -> Place
+fn find(words: &[u32; 289], n: usize) -> Place
     ensures cell { λ r. ⌜ r .cell < 544 ⌝ }
-    ensures place { λ r. ⌜ entryOf (concatBelow 544 (cellTerms words)) n ≡ entryOf (cellTerms words (r .cell)) (r .left) ⌝ }
+    ensures place { λ r. ⌜ entryOf (concatBelow 544 (cellTerms (now (words .entry)))) n ≡ entryOf (cellTerms (now (words .entry)) (r .cell)) (r .left) ⌝ }
 {
     let mut left = n;
     let mut at = 0;
@@ -145,10 +145,10 @@ fn gate_of_term(i: usize, j: usize, k: usize) -> Gate
 pub fn entry(words: [u32; 289], n: usize) -> Entry
     ensures { λ r. ⌜ ((f : Polynomial) → words ≡ wordsOf f → r ≡ entryOf (listing 16 f) n) ⌝ }
 {
-    let place = find(words, n);
+    let place = find(&words, n);
     let at = place.cell;
     let left = place.left;
-    let w = cell(words, at);
+    let w = cell(&words, at);
     if u32::count_ones(w) as usize <= left {
         return Entry::Nothing;
     }

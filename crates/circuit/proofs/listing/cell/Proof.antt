@@ -23,15 +23,15 @@ add-result c = omega (arith, cellRed-le (c .before .before .args .n) (c .before 
 mul-result-2 : tie.Need-mul-result-2
 mul-result-2 c = omega (arith, cellRed-le (c .before .before .args .n) (c .before .before .pre), cellBlue-le (c .before .before .args .n) (c .before .before .pre))
 
-array-read-result : tie.Need-array-read-result
-array-read-result c = omega (arith, cellRed-le (c .before .before .args .n) (c .before .before .pre), cellBlue-le (c .before .before .args .n) (c .before .before .pre))
+element-copy-out-result : tie.Need-element-copy-out-result
+element-copy-out-result c = omega (arith, cellRed-le (c .before .before .args .n) (c .before .before .pre), cellBlue-le (c .before .before .args .n) (c .before .before .pre))
 
 mask-of-requires : tie.Need-mask-of-requires
 mask-of-requires c κs = search needs
 
 returns : tie.Need-returns
 unfolding cellWord
-returns c = rw (← (c .mask-of .ensures), ← (c .before .blue-of .ensures), ← (c .before .before .red-of .ensures))
+returns c = rw (← (c .mask-of .ensures), ← (c .before .before .blue-of .ensures), ← (c .before .before .before .red-of .ensures))
 
 pub cell-spec : {M : Type 1} → statement M
 cell-spec =
@@ -42,6 +42,6 @@ cell-spec =
     blue-of-requires
     add-result
     mul-result-2
-    array-read-result
+    element-copy-out-result
     mask-of-requires
     returns)

@@ -43,8 +43,8 @@ loop-again : tie.Need-loop-again Inv-loop μ-loop
 loop-again c = (
   omega arith,
   omega (arith, ones-le 32 (c .cell .result) (omega arith)),
-  ap₂ _+_ (c .before .before .loop .inv .2) (ap ones (c .cell .ensures))
-      ∙ sym (length-cells-more (c .before .before .before .args .words) (c .before .before .loop .n)),
+  ap₂ _+_ (c .before .before .before .loop .inv .2) (ap ones (c .cell .ensures))
+      ∙ sym (length-cells-more (c .before .before .before .before .args .t1) (c .before .before .before .loop .n)),
 )
 
 returns : tie.Need-returns Inv-loop μ-loop

@@ -30,10 +30,10 @@ cast-if1 c = omega (arith, ones-le 32 (c .cell .result) (omega arith))
 
 returns : tie.Need-returns
 returns c f e =
-    sym (entry-past (c .before .before .before .args .words) (c .before .before .find .result .cell) (c .before .before .find .result .left)
+    sym (entry-past (c .before .before .before .before .before .args .t1) (c .before .before .before .find .result .cell) (c .before .before .before .find .result .left)
     (rw (c .before .cell .ensures) at (c .if1 .taken)))
-    ∙ sym (c .before .before .find .ensures .1)
-    ∙ entry-listing f (c .before .before .before .args .words) (c .before .before .before .args .n) e
+    ∙ sym (c .before .before .before .find .ensures .1)
+    ∙ entry-listing f (c .before .before .before .before .before .args .t1) (c .before .before .before .before .before .args .n) e
 
 red-of-requires : tie.Need-red-of-requires
 red-of-requires c κs = search needs
@@ -52,10 +52,10 @@ returns-2 c f e =
     ap Listed
     (c .gate-of-term .ensures
     ∙ cc)
-    ∙ sym (entry-here (c .before .before .before .before .before .before .before .args .words) (c .before .before .before .before .before .before .find .result .cell)
-    (c .before .before .before .before .before .before .find .result .left) (rw (c .before .before .before .before .before .cell .ensures) at (c .before .before .before .before .if1 .left)))
-    ∙ sym (c .before .before .before .before .before .before .find .ensures .1)
-    ∙ entry-listing f (c .before .before .before .before .before .before .before .args .words) (c .before .before .before .before .before .before .before .args .n) e
+    ∙ sym (entry-here (c .before .before .before .before .before .before .before .before .before .args .t1) (c .before .before .before .before .before .before .before .find .result .cell)
+    (c .before .before .before .before .before .before .before .find .result .left) (rw (c .before .before .before .before .before .cell .ensures) at (c .before .before .before .before .if1 .left)))
+    ∙ sym (c .before .before .before .before .before .before .before .find .ensures .1)
+    ∙ entry-listing f (c .before .before .before .before .before .before .before .before .before .args .t1) (c .before .before .before .before .before .before .before .before .before .args .n) e
 
 pub entry-spec : {M : Type 1} → statement M
 entry-spec =

@@ -32,7 +32,7 @@ cast-here c = omega (arith, ones-le 32 (c .cell .result) (omega arith))
 returns : tie.Need-returns Inv-loop μ-loop
 returns c = (
   omega arith,
-  entry-inside (c .before .before .before .before .args .words) (c .before .before .before .before .args .n) (c .before .before .before .loop .at)
+  entry-inside (c .before .before .before .before .args .words .now) (c .before .before .before .before .args .n) (c .before .before .before .loop .at)
       (c .before .before .before .loop .left) (omega arith) (c .before .before .before .loop .inv .1) (rw (c .before .cell .ensures) at (c .if1 .taken)),
 )
 
@@ -45,14 +45,14 @@ loop-less c = search needs
 loop-again : tie.Need-loop-again Inv-loop μ-loop
 loop-again c = (
   omega arith,
-  omega (arith, length-cells-more (c .before .before .before .before .args .words) (c .before .before .before .loop .at), ap ones (c .before .cell .ensures)),
+  omega (arith, length-cells-more (c .before .before .before .before .args .words .now) (c .before .before .before .loop .at), ap ones (c .before .cell .ensures)),
 )
 
 returns-2 : tie.Need-returns-2 Inv-loop μ-loop
 returns-2 c =
     let last : c .before .loop .at ≡ 543 = omega arith in (
       omega arith,
-      rw last (entry-last (c .before .before .args .words) (c .before .before .args .n) (c .before .loop .left) (rw last at (c .before .loop .inv .1))),
+      rw last (entry-last (c .before .before .args .words .now) (c .before .before .args .n) (c .before .loop .left) (rw last at (c .before .loop .inv .1))),
     )
 
 pub find-spec : {M : Type 1} → statement M
