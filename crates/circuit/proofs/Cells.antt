@@ -3,7 +3,6 @@ use mathlib.Core.Path.{_≡_, refl, sym, _∙_, ap, ap₂}
 use mathlib.Core.Bool.{Bool, true, false, cond, _&&_}
 use mathlib.Core.List.{List, [], _∷_, _++_, append-nil, map, map-append}
 use Prim.Native.Nat.{ℕ, zero, suc, _+_, _*_, _-_, _/_, _%_, _^_, _≤_, _<_}
-use native.Mathlib.Nat.{le-trans}
 use native.Mathlib.Numerals.{add-one}
 use native.Mathlib.Omega.{arith}
 use lib.Bits.{bitAnd, and-shr, and-le-r}
@@ -24,19 +23,9 @@ use Rattle.circuit.specs.Listing.{overPositions, triples, pairsBeside, e
 use Rattle.circuit.specs.Words.{wordsOf}
 use Rattle.circuit.specs.Cells.{concatBelow, marked, cellRed, cellBlue, cellMask, cellWord, cellTerms}
 use Rattle.circuit.proofs.Concat.{concatBelow-cong, concatBelow-add, concatBelow-rows, concatBelow-inside, marked-cong, ones-marked}
-use Rattle.circuit.proofs.Entries.{entryOf-front, entryOf-behind, entryOf-past, entryOf-getD}
+use Rattle.circuit.proofs.Entries.{among-append, entryOf-front, entryOf-behind, entryOf-past, entryOf-getD}
 
 -- ---- listings of parts
-
-pub among-append : (f : Polynomial) (l k : List Term) → among f (l ++ k) ≡ among f l ++ among f k
-unfolding among
-among-append f [] k = refl
-among-append f (x ∷ l) k = go (among-append f l k) (f x)
-  where
-    go : among f (l ++ k) ≡ among f l ++ among f k → (b : Bool)
-        → cond b (x ∷ among f (l ++ k)) (among f (l ++ k)) ≡ cond b (x ∷ among f l) (among f l) ++ among f k
-    go e true = ap (λ r. x ∷ r) e
-    go e false = e
 
 among-over : (f : Polynomial) (n : ℕ) (g : ℕ → List Term) → among f (overPositions n g) ≡ concatBelow n (λ i. among f (g (suc i)))
 unfolding among overPositions concatBelow

@@ -8,11 +8,9 @@ use native.Mathlib.Numerals.{add-one}
 use native.Mathlib.Omega.{arith}
 use lib.Arith.{lt-one}
 use lib.Count.{ones, onesIn, ones-cat}
-use lib.Dec.{ltb}
 use lib.ListN.{length, getD, length-append}
 use lib.Pow.{pow-pos, split}
 use lib.Seq.{getD-append-seam}
-use borrow.Author.Tests.{ltb-true, ltb-false}
 use Rattle.gf2.specs.Words.{bitOf, odd, bitAt}
 use Rattle.gf2.proofs.WordBits.{bitAt-mod}
 use Rattle.circuit.specs.Cells.{concatBelow, marked}

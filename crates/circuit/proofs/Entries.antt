@@ -1,14 +1,24 @@
--- What stands at a place of a listing that is put together from parts.
-use mathlib.Core.Path.{_≡_, refl, sym, _∙_, ap, ap₂}
+-- Listings put together from parts: the terms of a polynomial in each, and what stands at a place.
+use mathlib.Core.Path.{_≡_, refl, _∙_, ap}
+use mathlib.Core.Bool.{Bool, true, false, cond}
 use mathlib.Core.List.{List, [], _∷_, _++_}
 use Prim.Native.Nat.{ℕ, zero, suc, _+_, _≤_, _<_}
 use native.Mathlib.Nat.{zero-add, suc-add}
 use native.Mathlib.Omega.{arith}
 use lib.ListN.{length, getD}
-use Rattle.circuit.specs.declared.Entry.{Entry}
 use Rattle.circuit.specs.declared.Entry.the-variants.{Listed, Nothing}
-use Rattle.circuit.specs.Polynomial.{Term}
-use Rattle.circuit.specs.Listing.{entryOf, gateOfTerm}
+use Rattle.circuit.specs.Polynomial.{Term, Polynomial}
+use Rattle.circuit.specs.Listing.{among, entryOf, gateOfTerm}
+
+pub among-append : (f : Polynomial) (l k : List Term) → among f (l ++ k) ≡ among f l ++ among f k
+unfolding among
+among-append f [] k = refl
+among-append f (x ∷ l) k = go (among-append f l k) (f x)
+  where
+    go : among f (l ++ k) ≡ among f l ++ among f k → (b : Bool)
+        → cond b (x ∷ among f (l ++ k)) (among f (l ++ k)) ≡ cond b (x ∷ among f l) (among f l) ++ among f k
+    go e true = ap (λ r. x ∷ r) e
+    go e false = e
 
 pub entryOf-front : (l k : List Term) (n : ℕ) → n < length l → entryOf (l ++ k) n ≡ entryOf l n
 unfolding entryOf

@@ -1,9 +1,7 @@
 -- A cell's word stands below 17 times 17, since its two indices are at most 16.
-use mathlib.Core.Path.{_≡_, sym, _∙_, ap₂}
-use Prim.Native.Nat.{ℕ, _≤_, _+_, _*_}
 use native.Mathlib.Omega.{arith}
 use borrow.Author.Needs.{needs}
-use Rattle.circuit.specs.Cells.{cellRed, cellBlue, cellMask, cellWord}
+use Rattle.circuit.specs.Cells.{cellWord}
 use Rattle.circuit.proofs.Cells.{cellRed-le, cellBlue-le}
 use Rattle.circuit.proofs.listing.cell.Statement.{statement}
 use Rattle.circuit.proofs.listing.cell.Tie as tie

@@ -1,7 +1,6 @@
 -- Before cell n the total is the number of terms in the cells passed; the cells together are the listing.
 use mathlib.Core.Path.{_≡_, refl, sym, _∙_, ap, ap₂}
 use Prim.Native.Nat.{ℕ, _+_, _*_, _-_, _≤_}
-use native.Mathlib.Numerals.{add-one}
 use native.Mathlib.Omega.{arith}
 use lib.Count.{ones, ones-le}
 use lib.ListN.{length}
@@ -10,9 +9,6 @@ use Rattle.circuit.specs.Cells.{concatBelow, cellTerms}
 use Rattle.circuit.proofs.Cells.{length-cells-more, listing-cells}
 use Rattle.circuit.proofs.listing.count.Statement.{statement}
 use Rattle.circuit.proofs.listing.count.Tie as tie
-use Rattle.circuit.proofs.listing.count.Reads as reads
-use Rattle.circuit.proofs.listing.count.Lts as lts
-use Rattle.circuit.proofs.listing.cell.Reads as cell-reads
 
 abbrev Inv-loop : tie.InvT-loop
 Inv-loop words total₀ n₀ total n = (n ≤ 544) × (total ≤ 32 * n) × (total ≡ length (concatBelow n (cellTerms words)))

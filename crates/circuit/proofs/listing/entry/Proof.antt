@@ -1,23 +1,12 @@
 -- The place is found in a cell of the listing, the term's green index among the ones of the cell's word.
-use mathlib.Core.Path.{_≡_, sym, _∙_, ap}
-use Prim.Native.Nat.{ℕ, _<_, _≤_}
+use mathlib.Core.Path.{sym, _∙_, ap}
 use native.Mathlib.Omega.{arith}
-use lib.Count.{ones, ones-le}
+use lib.Count.{ones-le}
 use borrow.Author.Needs.{needs}
 use Rattle.circuit.specs.declared.Entry.the-variants.{Listed}
-use Rattle.circuit.specs.Listing.{entryOf}
-use Rattle.circuit.specs.Cells.{concatBelow, cellTerms}
 use Rattle.circuit.proofs.Cells.{entry-here, entry-past, entry-listing}
 use Rattle.circuit.proofs.listing.entry.Statement.{statement}
 use Rattle.circuit.proofs.listing.entry.Tie as tie
-use Rattle.circuit.proofs.listing.entry.Reads as reads
-use Rattle.circuit.proofs.listing.entry.Lts as lts
-use Rattle.circuit.proofs.listing.blue_of.Reads as blue-of-reads
-use Rattle.circuit.proofs.listing.cell.Reads as cell-reads
-use Rattle.circuit.proofs.listing.find.Reads as find-reads
-use Rattle.circuit.proofs.listing.gate_of_term.Reads as gate-of-term-reads
-use Rattle.circuit.proofs.listing.red_of.Reads as red-of-reads
-use Rattle.circuit.proofs.listing.select.Reads as select-reads
 
 find-requires : tie.Need-find-requires
 find-requires c κs = search needs

@@ -1,6 +1,6 @@
 -- Before a cell, what is left of the place is the place less the terms in the cells passed.
-use mathlib.Core.Path.{_≡_, refl, sym, _∙_, ap}
-use Prim.Native.Nat.{ℕ, _+_, _-_, _≤_}
+use mathlib.Core.Path.{_≡_, ap}
+use Prim.Native.Nat.{_+_, _-_, _≤_}
 use native.Mathlib.Omega.{arith}
 use lib.Count.{ones, ones-le}
 use lib.ListN.{length}
@@ -9,9 +9,6 @@ use Rattle.circuit.specs.Cells.{concatBelow, cellTerms}
 use Rattle.circuit.proofs.Cells.{length-cells-more, entry-inside, entry-last}
 use Rattle.circuit.proofs.listing.find.Statement.{statement}
 use Rattle.circuit.proofs.listing.find.Tie as tie
-use Rattle.circuit.proofs.listing.find.Reads as reads
-use Rattle.circuit.proofs.listing.find.Lts as lts
-use Rattle.circuit.proofs.listing.cell.Reads as cell-reads
 
 abbrev Inv-loop : tie.InvT-loop
 Inv-loop words n left₀ at₀ left at = (at ≤ 543) × (n ≡ length (concatBelow at (cellTerms words)) + left)

@@ -1,22 +1,17 @@
+-- The tests of the code are those of the definition: which kind of cell it is.
 use borrow.Author.Tests.{lt-ltb, le-ltb}
 use Rattle.circuit.specs.Cells.{cellMask}
-use borrow.Author.Needs.{needs}
 use Rattle.circuit.proofs.listing.mask_of.Statement.{statement}
 use Rattle.circuit.proofs.listing.mask_of.Tie as tie
-use Rattle.circuit.proofs.listing.mask_of.Reads as reads
-use Rattle.circuit.proofs.listing.mask_of.Lts as lts
 
--- src/listing.rt:51:9
 returns : tie.Need-returns
 unfolding cellMask
 returns c = rw (lt-ltb _ _ (c .if1 .taken))
 
--- src/listing.rt:54:9
 returns-2 : tie.Need-returns-2
 unfolding cellMask
 returns-2 c = rw (le-ltb _ _ (c .before .if1 .left), lt-ltb _ _ (c .if2 .taken))
 
--- src/listing.rt:47:1
 returns-3 : tie.Need-returns-3
 unfolding cellMask
 returns-3 c = rw (le-ltb _ _ (c .before .if1 .left), le-ltb _ _ (c .if2 .left))

@@ -1,30 +1,24 @@
+-- The tests of the code are those of the definition: which kind of cell it is.
 use borrow.Author.Tests.{lt-ltb, le-ltb}
 use Rattle.circuit.specs.Cells.{cellRed}
 use borrow.Author.Needs.{needs}
 use Rattle.circuit.proofs.listing.red_of.Statement.{statement}
 use Rattle.circuit.proofs.listing.red_of.Tie as tie
-use Rattle.circuit.proofs.listing.red_of.Reads as reads
-use Rattle.circuit.proofs.listing.red_of.Lts as lts
 
--- src/listing.rt:26:16
 add-result : tie.Need-add-result
 add-result c = search needs
 
--- src/listing.rt:26:9
 returns : tie.Need-returns
 unfolding cellRed
 returns c = rw (lt-ltb _ _ (c .if1 .taken))
 
--- src/listing.rt:29:16
 sub-result : tie.Need-sub-result
 sub-result c = search needs
 
--- src/listing.rt:29:9
 returns-2 : tie.Need-returns-2
 unfolding cellRed
 returns-2 c = rw (le-ltb _ _ (c .before .if1 .left), lt-ltb _ _ (c .if2 .taken))
 
--- src/listing.rt:22:1
 returns-3 : tie.Need-returns-3
 unfolding cellRed
 returns-3 c = rw (le-ltb _ _ (c .before .if1 .left), le-ltb _ _ (c .if2 .left))

@@ -1,5 +1,5 @@
 -- Before bit k, what is left of the place is the place less the ones among the bits passed.
-use mathlib.Core.Path.{_≡_, refl, sym, _∙_, ap}
+use mathlib.Core.Path.{_≡_, sym, _∙_, ap}
 use mathlib.Core.Bool.{true, false}
 use mathlib.Core.Logic.{⊎-elim}
 use Prim.Native.Nat.{ℕ, _+_, _-_, _≤_}
@@ -11,9 +11,6 @@ use Rattle.circuit.specs.Cells.{concatBelow, marked}
 use Rattle.circuit.proofs.Concat.{length-marked-more, getD-marked}
 use Rattle.circuit.proofs.listing.select.Statement.{statement}
 use Rattle.circuit.proofs.listing.select.Tie as tie
-use Rattle.circuit.proofs.listing.select.Reads as reads
-use Rattle.circuit.proofs.listing.select.Lts as lts
-use Rattle.gf2.proofs.bit.Reads as bit-reads
 
 abbrev Inv-loop : tie.InvT-loop
 Inv-loop w n left₀ k₀ left k = (k ≤ 17) × (n ≡ length (marked k (bitAt w)) + left)
