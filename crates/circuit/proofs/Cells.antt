@@ -63,15 +63,13 @@ cellBlue-le n h = go (ltb n 512) (ltb n 528)
 -- A cell has at most 17 bits.
 pub cellWord-lt : (words : List ℕ) (n : ℕ) → cellWord words n < 2 ^ 17
 unfolding cellWord cellMask
-cellWord-lt words n = below (cellMask n) (go (ltb n 256) (ltb n 512))
+cellWord-lt words n =
+    let mask : cellMask n < 2 ^ 17 = of-two (ltb n 256) (omega arith) (of-two (ltb n 512) (omega arith) (omega arith)) in
+    omega (arith, and-le-r (getD words (17 * cellRed n + cellBlue n) 0) (cellMask n))
   where
-    go : (x y : Bool) → cond x 131070 (cond y 1 131070) < 131072
-    go true y = omega arith
-    go false true = omega arith
-    go false false = omega arith
-
-    below : (mask : ℕ) → mask < 131072 → bitAnd (getD words (17 * cellRed n + cellBlue n) 0) mask < 131072
-    below mask h = omega (arith, and-le-r (getD words (17 * cellRed n + cellBlue n) 0) mask)
+    of-two : (b : Bool) {x y : ℕ} → x < 2 ^ 17 → y < 2 ^ 17 → cond b x y < 2 ^ 17
+    of-two true h k = h
+    of-two false h k = k
 
 -- How many terms it has.
 pub length-cellTerms : (words : List ℕ) (n : ℕ) → length (cellTerms words n) ≡ ones (cellWord words n)
