@@ -42,7 +42,7 @@ among-two f g =
 
 -- ---- a cell
 
-pub cellRed-le : (n : ℕ) → n < 544 → cellRed n ≤ 16
+cellRed-le : (n : ℕ) → n < 544 → cellRed n ≤ 16
 unfolding cellRed
 cellRed-le n h = go (ltb n 512) (ltb n 528) refl
   where
@@ -51,7 +51,7 @@ cellRed-le n h = go (ltb n 512) (ltb n 528) refl
     go false true e = omega (arith, ltb-true n 528 e)
     go false false e = omega arith
 
-pub cellBlue-le : (n : ℕ) → n < 544 → cellBlue n ≤ 16
+cellBlue-le : (n : ℕ) → n < 544 → cellBlue n ≤ 16
 unfolding cellBlue
 cellBlue-le n h = go (ltb n 512) (ltb n 528)
   where
@@ -59,6 +59,10 @@ cellBlue-le n h = go (ltb n 512) (ltb n 528)
     go true y = omega arith
     go false true = omega arith
     go false false = omega arith
+
+-- Its word is one of the 289.
+pub cell-index : (n : ℕ) → n < 544 → 17 * cellRed n + cellBlue n < 289
+cell-index n h = omega (arith, cellRed-le n h, cellBlue-le n h)
 
 -- A cell has at most 17 bits.
 pub cellWord-lt : (words : List ℕ) (n : ℕ) → cellWord words n < 2 ^ 17

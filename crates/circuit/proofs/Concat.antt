@@ -45,11 +45,11 @@ concatBelow-rows (suc a) g =
     column : (n : ℕ) → n < 16 → (a * 16 + n) % 16 ≡ n
     column n h = omega arith
 
--- The lists before place a stay in front as more come behind them.
-pub concatBelow-front : {A : Type 0} (a b : ℕ) (f : ℕ → List A) → a ≤ b → concatBelow b f ≡ concatBelow a f ++ concatBelow (b - a) (λ n. f (a + n))
+-- The lists before place a, and the others behind them.
+concatBelow-front : {A : Type 0} (a b : ℕ) (f : ℕ → List A) → a ≤ b → concatBelow b f ≡ concatBelow a f ++ concatBelow (b - a) (λ n. f (a + n))
 concatBelow-front a b f h = ap (λ (n : ℕ). concatBelow n f) (omega arith) ∙ concatBelow-add a (b - a) f
 
--- Place n is in the list at a, left places from its start.
+-- The list at place a, with what comes before it and what comes behind.
 pub concatBelow-inside : {A : Type 0} (a b : ℕ) (f : ℕ → List A) → a < b
     → concatBelow b f ≡ concatBelow a f ++ (f a ++ concatBelow (b - suc a) (λ n. f (suc a + n)))
 unfolding concatBelow

@@ -19,7 +19,7 @@ use Rattle.circuit.specs.Sum.{isPosition, areGates}
 use Rattle.circuit.specs.Polynomial.{Term, Polynomial, term, sameTerm, empty, toggled, appliedAll, polynomial}
 use Rattle.circuit.specs.Listing.{overPositions, triples, pairsBeside, everyTerm, among, listing, occurrences, gatesOf}
 use Rattle.circuit.proofs.TermGates.{applied-gateOfTerm}
-use Rattle.circuit.proofs.Terms.{IsTerm, same-term, is-position, position-true, position-false, polynomial-terms}
+use Rattle.circuit.proofs.Terms.{IsTerm, never, same-term, is-position, position-true, position-false, polynomial-terms}
 
 -- ---- how often a term stands among those of a polynomial
 
@@ -45,8 +45,8 @@ occurrences-among f h (k ∷ l) = go (occurrences-among f h l) (f k) (f h) (same
     differ r e = absurd (no (f k) (ap f (sym (same-term h k r)) ∙ e))
       where
         no : (b : Bool) → b ≡ not b → ⊥
-        no true z = let w : _≡_ {A = ℕ} 0 1 = cc in omega arith
-        no false z = let w : _≡_ {A = ℕ} 0 1 = cc in omega arith
+        no true z = never (sym z)
+        no false z = never z
 
     go : occurrences h (among f l) ≡ cond (f h) (occurrences h l) 0 → (x y z : Bool) → f k ≡ x → f h ≡ y → sameTerm h k ≡ z
         → occurrences h (cond x (k ∷ among f l) (among f l)) ≡ cond y (cond z 1 0 + occurrences h l) 0
@@ -75,10 +75,7 @@ position-more m p q = go (isPosition m p) (eqb p (suc m)) refl refl
     last e = position-true (suc m) p (omega arith) (omega arith)
 
     outside : isPosition m p ≡ false → (p ≡ suc m → ⊥) → isPosition (suc m) p ≡ false
-    outside e n = position-false (suc m) p (λ h k. no (sym (position-true m p h (omega arith)) ∙ e))
-      where
-        no : true ≡ false → ⊥
-        no z = let w : _≡_ {A = ℕ} 0 1 = cc in omega arith
+    outside e n = position-false (suc m) p (λ h k. never (sym e ∙ position-true m p h (omega arith)))
 
     go : (x y : Bool) → isPosition m p ≡ x → eqb p (suc m) ≡ y → once (isPosition m p && q) + once (eqb p (suc m) && q) ≡ once (isPosition (suc m) p && q)
     go true true e d = absurd (clash (is-position m p e) (eqb-true p (suc m) d))

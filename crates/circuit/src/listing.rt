@@ -1,5 +1,5 @@
 // The terms of a polynomial in order: CCZ terms by red, blue and green position, then CZ terms red-blue, red-green, blue-green.
-// The listing falls into 544 cells, each what one word holds under a mask, so that a word without terms costs one test.
+// The listing falls into 544 cells, each what one word holds under a mask, so that a word of terms is passed at one step.
 ghost use mathlib.Core.Path.{_≡_};
 ghost use Prim.Native.Nat.{_<_};
 ghost use lib.ListN.{length, getD};
@@ -19,6 +19,7 @@ struct Place {
     left: usize,
 }
 
+// The red and the blue index of the terms of cell `n`.
 fn red_of(n: usize) -> usize
     ensures { λ r. ⌜ r ≡ cellRed n ⌝ }
 {

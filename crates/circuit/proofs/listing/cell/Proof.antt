@@ -1,8 +1,8 @@
--- A cell's word stands below 17 times 17, since its two indices are at most 16.
+-- A cell's word is one of the 289, since its two indices are at most 16.
 use native.Mathlib.Omega.{arith}
 use borrow.Author.Needs.{needs}
 use Rattle.circuit.specs.Cells.{cellWord}
-use Rattle.circuit.proofs.Cells.{cellRed-le, cellBlue-le}
+use Rattle.circuit.proofs.Cells.{cell-index}
 use Rattle.circuit.proofs.listing.cell.Statement.{statement}
 use Rattle.circuit.proofs.listing.cell.Tie as tie
 
@@ -10,19 +10,19 @@ red-of-requires : tie.Need-red-of-requires
 red-of-requires c κs = search needs
 
 mul-result : tie.Need-mul-result
-mul-result c = omega (arith, cellRed-le (c .before .args .n) (c .before .pre))
+mul-result c = omega (arith, cell-index (c .before .args .n) (c .before .pre))
 
 blue-of-requires : tie.Need-blue-of-requires
 blue-of-requires c κs = search needs
 
 add-result : tie.Need-add-result
-add-result c = omega (arith, cellRed-le (c .before .before .args .n) (c .before .before .pre), cellBlue-le (c .before .before .args .n) (c .before .before .pre))
+add-result c = omega (arith, cell-index (c .before .before .args .n) (c .before .before .pre))
 
 mul-result-2 : tie.Need-mul-result-2
-mul-result-2 c = omega (arith, cellRed-le (c .before .before .args .n) (c .before .before .pre), cellBlue-le (c .before .before .args .n) (c .before .before .pre))
+mul-result-2 c = omega (arith, cell-index (c .before .before .args .n) (c .before .before .pre))
 
 element-copy-out-result : tie.Need-element-copy-out-result
-element-copy-out-result c = omega (arith, cellRed-le (c .before .before .args .n) (c .before .before .pre), cellBlue-le (c .before .before .args .n) (c .before .before .pre))
+element-copy-out-result c = omega (arith, cell-index (c .before .before .args .n) (c .before .before .pre))
 
 mask-of-requires : tie.Need-mask-of-requires
 mask-of-requires c κs = search needs
