@@ -1,7 +1,7 @@
 pub mod Concat
 pub mod Entries
 pub mod Cells
-pub mod Terms
+pub mod PolynomialTerms
 pub mod TermGates
 pub mod EveryTermOnce
 pub mod MorePositions

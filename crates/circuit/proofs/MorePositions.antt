@@ -14,7 +14,7 @@ use Rattle.circuit.specs.Sum.{areGates}
 use Rattle.circuit.specs.Polynomial.{Term, Polynomial, term, polynomial}
 use Rattle.circuit.specs.Listing.{overPositions, triples, pairsBeside, everyTerm, among, listing}
 use Rattle.circuit.proofs.Entries.{among-append}
-use Rattle.circuit.proofs.Terms.{IsTerm, HasTerms, polynomial-terms}
+use Rattle.circuit.proofs.PolynomialTerms.{IsTerm, HasTerms, polynomial-terms}
 
 -- What a polynomial lacks is not among its terms.
 absent : (m : ℕ) (f : Polynomial) → HasTerms m f → (h : Term) → (IsTerm m h → ⊥) → among f (h ∷ []) ≡ []

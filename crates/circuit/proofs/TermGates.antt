@@ -13,7 +13,7 @@ use Rattle.circuit.specs.Colours.{put, join, first, second}
 use Rattle.circuit.specs.Sum.{isGate, areGates}
 use Rattle.circuit.specs.Polynomial.{Term, Polynomial, term, pair, toggled, applied}
 use Rattle.circuit.specs.Listing.{overPositions, triples, pairsBeside, everyTerm, among, listing, gateOfTerm, gatesOf, entryOf}
-use Rattle.circuit.proofs.Terms.{IsTerm, and-both, position-true}
+use Rattle.circuit.proofs.PolynomialTerms.{IsTerm, and-both, position-true}
 
 -- ---- by which indices are 0
 
