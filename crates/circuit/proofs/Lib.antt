@@ -10,3 +10,10 @@ pub mod HistoryCodes
 pub mod Terms
 pub mod Stores
 pub mod PolynomialWords
+pub mod Concat
+pub mod Entries
+pub mod Cells
+pub mod PolynomialTerms
+pub mod TermGates
+pub mod EveryTermOnce
+pub mod MorePositions

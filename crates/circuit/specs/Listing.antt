@@ -2,7 +2,7 @@
 -- The order is the one that document 02 (d) asks for, so that it is fixed from the start.
 use mathlib.Core.Bool.{cond}
 use mathlib.Core.List.{List, [], _∷_, _++_}
-use Prim.Native.Nat.{ℕ, zero, suc}
+use Prim.Native.Nat.{ℕ, zero, suc, _+_}
 use Rattle.circuit.specs.declared.Colour.{Colour}
 use Rattle.circuit.specs.declared.Colour.the-variants.{Red, Blue, Green}
 use Rattle.circuit.specs.declared.Gate.{Gate}
@@ -10,7 +10,7 @@ use Rattle.circuit.specs.declared.Gate.the-variants.{Ccz, Cz}
 use Rattle.circuit.specs.declared.Entry.{Entry}
 use Rattle.circuit.specs.declared.Entry.the-variants.{Listed, Nothing}
 use Rattle.circuit.specs.Colours.{join}
-use Rattle.circuit.specs.Polynomial.{Term, Polynomial, term}
+use Rattle.circuit.specs.Polynomial.{Term, Polynomial, term, sameTerm}
 
 -- f 1, .., f n, one after the other.
 unfoldable pub overPositions : ℕ → (ℕ → List Term) → List Term
@@ -38,12 +38,22 @@ among f (h ∷ hs) = cond (f h) (h ∷ among f hs) (among f hs)
 unfoldable pub listing : ℕ → Polynomial → List Term
 listing m f = among f (everyTerm m)
 
+-- How often a term stands in a list: a listing with "every term once" and nothing else has each term of the polynomial once, any other not at all.
+unfoldable pub occurrences : Term → List Term → ℕ
+occurrences h [] = 0
+occurrences h (k ∷ ks) = cond (sameTerm h k) 1 0 + occurrences h ks
+
 -- "each a `ccz` or `cz` form": the gate that adds a term, colours in the order r, b, g.
 unfoldable pub gateOfTerm : ℕ → ℕ → ℕ → Gate
 gateOfTerm zero j k = Cz (record { colour = Blue; position = j }) (record { colour = Green; position = k })
 gateOfTerm (suc i) zero k = Cz (record { colour = Red; position = suc i }) (record { colour = Green; position = k })
 gateOfTerm (suc i) (suc j) zero = Cz (record { colour = Red; position = suc i }) (record { colour = Blue; position = suc j })
 gateOfTerm (suc i) (suc j) (suc k) = Ccz (suc i) (suc j) (suc k)
+
+-- The gates of a list of terms.
+unfoldable pub gatesOf : List Term → List Gate
+gatesOf [] = []
+gatesOf (h ∷ hs) = gateOfTerm (h .red) (h .blue) (h .green) ∷ gatesOf hs
 
 -- The entry at place n of a listing, places counted from 0.
 unfoldable pub entryOf : List Term → ℕ → Entry

@@ -1,0 +1,134 @@
+-- Which terms a circuit's polynomial has: one position of each colour, or two positions of different colours.
+use mathlib.Core.Path.{_≡_, refl, sym, _∙_, ap, ap₂}
+use mathlib.Core.Logic.{_⊎_, inl, inr}
+use mathlib.Core.Bool.{Bool, true, false, not, _&&_}
+use mathlib.Core.List.{List, [], _∷_}
+use Prim.Native.Nat.{ℕ, _+_, _≤_}
+use native.Mathlib.Omega.{arith}
+use lib.Dec.{eqb, leb}
+use borrow.Author.Tests.{leb-true, le-leb, eqb-true, not-true}
+use Rattle.gf2.specs.Strings.{_⊕_}
+use Rattle.circuit.specs.declared.Colour.{Colour}
+use Rattle.circuit.specs.declared.Colour.the-variants.{Red, Blue, Green}
+use Rattle.circuit.specs.declared.Gate.{Gate}
+use Rattle.circuit.specs.declared.Gate.the-variants.{Ccz, Cz, Cnot}
+use Rattle.circuit.specs.Colours.{the, put, join, first, second, sameColour}
+use Rattle.circuit.specs.Sum.{isPosition, isGate, areGates}
+use Rattle.circuit.specs.Polynomial.{Term, Polynomial, term, sameTerm, empty, toggled, substituted, pair, applied, appliedAll, polynomial}
+
+-- A term of a circuit of m positions: at most one of its indices is 0.
+pub record IsTerm (m : ℕ) (h : Term) : Type 0 where
+  pub red-le : h .red ≤ m
+  pub blue-le : h .blue ≤ m
+  pub green-le : h .green ≤ m
+  pub red-blue : 1 ≤ h .red + h .blue
+  pub red-green : 1 ≤ h .red + h .green
+  pub blue-green : 1 ≤ h .blue + h .green
+
+-- The polynomial has no other terms.
+abbrev pub HasTerms : ℕ → Polynomial → Type 0
+HasTerms m f = (h : Term) → f h ≡ true → IsTerm m h
+
+pub never : {A : Type 0} → false ≡ true → A
+never e = let z : _≡_ {A = ℕ} 0 1 = cc in absurd (omega arith)
+
+pub and-both : (a b : Bool) → a && b ≡ true → (a ≡ true) × (b ≡ true)
+and-both true b e = (refl, e)
+and-both false b e = never e
+
+either : (a b : Bool) → a ⊕ b ≡ true → (a ≡ true) ⊎ (b ≡ true)
+unfolding _⊕_
+either true b e = inl refl
+either false b e = inr e
+
+pub same-term : (h k : Term) → sameTerm h k ≡ true → h ≡ k
+unfolding sameTerm
+same-term h k e =
+    let p = and-both (eqb (h .red) (k .red)) (eqb (h .blue) (k .blue) && eqb (h .green) (k .green)) e in
+    let q = and-both (eqb (h .blue) (k .blue)) (eqb (h .green) (k .green)) (p .1) in
+    parts (eqb-true (h .red) (k .red) (p .0)) (eqb-true (h .blue) (k .blue) (q .0)) (eqb-true (h .green) (k .green) (q .1))
+  where
+    parts : h .red ≡ k .red → h .blue ≡ k .blue → h .green ≡ k .green → h ≡ k
+    parts p q r = ap₂ (λ (i j : ℕ). record { red = i; blue = j; green = h .green }) p q ∙ ap (λ (n : ℕ). record { red = k .red; blue = k .blue; green = n }) r
+
+pub is-position : (m p : ℕ) → isPosition m p ≡ true → (1 ≤ p) × (p ≤ m)
+unfolding isPosition
+is-position m p e = let q = and-both (leb 1 p) (leb p m) e in (leb-true 1 p (q .0), leb-true p m (q .1))
+
+pub position-true : (m p : ℕ) → 1 ≤ p → p ≤ m → isPosition m p ≡ true
+unfolding isPosition
+position-true m p h k = rw (le-leb 1 p h, le-leb p m k)
+
+pub position-false : (m p : ℕ) → (1 ≤ p → p ≤ m → ⊥) → isPosition m p ≡ false
+position-false m p n = go (isPosition m p) refl
+  where
+    go : (b : Bool) → isPosition m p ≡ b → isPosition m p ≡ false
+    go true e = absurd (n (is-position m p e .0) (is-position m p e .1))
+    go false e = e
+
+-- ---- each gate keeps it so
+
+has-toggled : (m : ℕ) (k : Term) (f : Polynomial) → HasTerms m f → IsTerm m k → HasTerms m (toggled k f)
+unfolding toggled
+has-toggled m k f t i h e = go (either (f h) (sameTerm h k) e)
+  where
+    go : (f h ≡ true) ⊎ (sameTerm h k ≡ true) → IsTerm m h
+    go (inl p) = t h p
+    go (inr p) = rw (same-term h k p) i
+
+has-substituted : (m : ℕ) (C : Colour) (c t : ℕ) (f : Polynomial) → HasTerms m f → (1 ≤ c) × (c ≤ m) → (1 ≤ t) × (t ≤ m) → HasTerms m (substituted C c t f)
+unfolding substituted the put join first second
+has-substituted m C c t f ih p q h e = go (either (f h) (eqb (the C h) c && f (put C t h)) e)
+  where
+    back : (C : Colour) → the C h ≡ c → IsTerm m (put C t h) → IsTerm m h
+    back Red e i = omega arith
+    back Blue e i = omega arith
+    back Green e i = omega arith
+
+    go : (f h ≡ true) ⊎ (eqb (the C h) c && f (put C t h) ≡ true) → IsTerm m h
+    go (inl r) = ih h r
+    go (inr r) = let s = and-both (eqb (the C h) c) (f (put C t h)) r in back C (eqb-true (the C h) c (s .0)) (ih (put C t h) (s .1))
+
+pair-term : (m : ℕ) (C D : Colour) (a b : ℕ) → sameColour C D ≡ false → (1 ≤ a) × (a ≤ m) → (1 ≤ b) × (b ≤ m) → IsTerm m (put C a (put D b (term 0 0 0)))
+unfolding put join first second term
+pair-term m Red Red a b n p q = never (sym n)
+pair-term m Red Blue a b n p q = omega arith
+pair-term m Red Green a b n p q = omega arith
+pair-term m Blue Red a b n p q = omega arith
+pair-term m Blue Blue a b n p q = never (sym n)
+pair-term m Blue Green a b n p q = omega arith
+pair-term m Green Red a b n p q = omega arith
+pair-term m Green Blue a b n p q = omega arith
+pair-term m Green Green a b n p q = never (sym n)
+
+has-applied : (m : ℕ) (g : Gate) (f : Polynomial) → isGate m g ≡ true → HasTerms m f → HasTerms m (applied g f)
+unfolding isGate applied pair term
+has-applied m (Ccz i j k) f e t =
+    let p = and-both (isPosition m i) (isPosition m j && isPosition m k) e in
+    let q = and-both (isPosition m j) (isPosition m k) (p .1) in
+    let a = is-position m i (p .0) in
+    let b = is-position m j (q .0) in
+    let c = is-position m k (q .1) in
+    has-toggled m (term i j k) f t (omega arith)
+has-applied m (Cz x y) f e t =
+    let p = and-both (isPosition m (x .position)) (isPosition m (y .position) && not (sameColour (x .colour) (y .colour))) e in
+    let q = and-both (isPosition m (y .position)) (not (sameColour (x .colour) (y .colour))) (p .1) in
+    has-toggled m (pair x y) f t
+    (pair-term m (x .colour) (y .colour) (x .position) (y .position) (not-true (sameColour (x .colour) (y .colour)) (q .1))
+    (is-position m (x .position) (p .0)) (is-position m (y .position) (q .0)))
+has-applied m (Cnot C c t) f e h =
+    let p = and-both (isPosition m c) (isPosition m t && not (eqb c t)) e in
+    let q = and-both (isPosition m t) (not (eqb c t)) (p .1) in
+    has-substituted m C c t f h (is-position m c (p .0)) (is-position m t (q .0))
+
+has-all : (m : ℕ) (gs : List Gate) (f : Polynomial) → areGates m gs ≡ true → HasTerms m f → HasTerms m (appliedAll gs f)
+unfolding areGates appliedAll
+has-all m [] f e t = t
+has-all m (g ∷ gs) f e t =
+    let p = and-both (isGate m g) (areGates m gs) e in
+    has-all m gs (applied g f) (p .1) (has-applied m g f (p .0) t)
+
+-- A term of a circuit's polynomial is one position of each colour or two positions of different colours, all of them up to m.
+pub polynomial-terms : (m : ℕ) (gs : List Gate) → areGates m gs ≡ true → HasTerms m (polynomial gs)
+unfolding polynomial empty
+polynomial-terms m gs e = has-all m gs empty e (λ h z. never z)
