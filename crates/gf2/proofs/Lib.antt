@@ -10,4 +10,5 @@ pub mod Digits
 pub mod HighFirst
 pub mod LowFirst
 pub mod WordBits
+pub mod ZeroStrings
 pub mod Tables

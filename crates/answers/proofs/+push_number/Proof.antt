@@ -1,0 +1,132 @@
+-- The digits of a number are those of its tenth and the last one. The measure is the number.
+use mathlib.Core.Path.{sym, ap, _∙_}
+use native.Mathlib.Omega.{arith}
+use Rattle.text.proofs.Decimal.{decimal-one, decimal-more, tenth-less}
+use Rattle.text.proofs.DecimalUnique.{decimal-some, decimal-length-more}
+use Rattle.answers.specs.Texts.{joined}
+use Rattle.answers.proofs.Texts.{inside, joined-then, joined-len}
+use borrow.Author.Needs.{needs}
+use Prim.Native.Nat.{ℕ, _+_, _/_, _%_, _<_}
+use mathlib.Core.List.{[], _∷_}
+use Rattle.text.specs.Spelling.{decimal}
+use borrow.Fn.Kinds.{In}
+use borrow.Fn.PlainCycle.{Measures, is, falls, and}
+use Rattle.answers.proofs.push_number.Reads as push-number
+use Rattle.answers.proofs.push_number.Kinds as push-number-kinds
+use Rattle.answers.proofs.+push_number.Lts-push_number as push-number-lts
+use Rattle.answers.proofs.push_byte.Reads as push-byte-reads
+use Rattle.answers.proofs.+push_number.{statement}
+use Rattle.answers.proofs.+push_number.Tie.{close}
+
+abbrev μ-push-number : Measures 0 push-number-kinds.ps ℕ
+μ-push-number κs a = a .1 .0
+
+abbrev push-number-at : ℕ → In 0 push-number-kinds.ps
+push-number-at t =
+    and 0 push-number-kinds.ps (is 0 push-number-kinds.ps μ-push-number t) push-number.Pre
+
+abbrev push-number-below : ℕ → In 0 push-number-kinds.ps
+push-number-below t =
+    and 0 push-number-kinds.ps (falls 0 push-number-kinds.ps _<_ μ-push-number t) push-number.Pre
+
+push-number-cast-push-byte : (t : ℕ) → push-number-lts.Need-cast-push-byte (
+  push-byte-reads.Asked,
+  push-byte-reads.Learnt,
+  push-number-below t,
+  push-number.Post,
+) (push-number-at t) push-number.Post
+push-number-cast-push-byte t c = search needs
+
+push-number-add-push-byte : (t : ℕ) → push-number-lts.Need-add-push-byte (
+  push-byte-reads.Asked,
+  push-byte-reads.Learnt,
+  push-number-below t,
+  push-number.Post,
+) (push-number-at t) push-number.Post
+push-number-add-push-byte t c = search needs
+
+push-number-push-byte-requires : (t : ℕ) → push-number-lts.Need-push-byte-requires (
+  push-byte-reads.Asked,
+  push-byte-reads.Learnt,
+  push-number-below t,
+  push-number.Post,
+) (push-number-at t) push-number.Post
+push-number-push-byte-requires t c κs = omega (arith, decimal-some (c .before .args .n))
+
+push-number-returns : (t : ℕ) → push-number-lts.Need-returns (
+  push-byte-reads.Asked,
+  push-byte-reads.Learnt,
+  push-number-below t,
+  push-number.Post,
+) (push-number-at t) push-number.Post
+push-number-returns t c = c .push-byte .ensures ∙ ap (joined _) (sym (decimal-one _ (c .before .if1 .taken)))
+
+push-number-push-number-requires : (t : ℕ) → push-number-lts.Need-push-number-requires (
+  push-byte-reads.Asked,
+  push-byte-reads.Learnt,
+  push-number-below t,
+  push-number.Post,
+) (push-number-at t) push-number.Post
+push-number-push-number-requires t c κs = (
+  omega (arith, tenth-less (c .before .args .n) (c .if1 .left)),
+  omega (arith, decimal-length-more (c .before .args .n) (c .if1 .left)),
+)
+
+push-number-cast-push-byte-2 : (t : ℕ) → push-number-lts.Need-cast-push-byte-2 (
+  push-byte-reads.Asked,
+  push-byte-reads.Learnt,
+  push-number-below t,
+  push-number.Post,
+) (push-number-at t) push-number.Post
+push-number-cast-push-byte-2 t c = search needs
+
+push-number-add-push-byte-2 : (t : ℕ) → push-number-lts.Need-add-push-byte-2 (
+  push-byte-reads.Asked,
+  push-byte-reads.Learnt,
+  push-number-below t,
+  push-number.Post,
+) (push-number-at t) push-number.Post
+push-number-add-push-byte-2 t c = search needs
+
+push-number-push-byte-requires-2 : (t : ℕ) → push-number-lts.Need-push-byte-requires-2 (
+  push-byte-reads.Asked,
+  push-byte-reads.Learnt,
+  push-number-below t,
+  push-number.Post,
+) (push-number-at t) push-number.Post
+push-number-push-byte-requires-2 t c κs =
+    omega (arith, joined-len _ _ (c .push-number .ensures), decimal-length-more (c .before .before .args .n) (c .before .if1 .left))
+
+push-number-returns-2 : (t : ℕ) → push-number-lts.Need-returns-2 (
+  push-byte-reads.Asked,
+  push-byte-reads.Learnt,
+  push-number-below t,
+  push-number.Post,
+) (push-number-at t) push-number.Post
+push-number-returns-2 t c =
+    let a = c .before .before .before in
+    let n = a .args .n in
+    joined-then (a .args .text) (decimal (n / 10)) ((48 + n % 10) ∷ [])
+    (inside (a .args .text) (a .good .0 .1 .1 .0 .1 .0 .1) (omega (arith, a .pre .1)))
+    (c .before .push-number .ensures)
+    (c .push-byte2 .ensures)
+    ∙ ap (joined _) (sym (decimal-more n (c .before .before .if1 .left)))
+
+pub +push-number-spec : {M : Type 1} → statement M
++push-number-spec = close μ-push-number λ t. push-number-lts.spec (
+  push-byte-reads.Asked,
+  push-byte-reads.Learnt,
+  push-number-below t,
+  push-number.Post,
+)
+    (push-number-at t)
+    push-number.Post
+    (push-number-cast-push-byte t)
+    (push-number-add-push-byte t)
+    (push-number-push-byte-requires t)
+    (push-number-returns t)
+    (push-number-push-number-requires t)
+    (push-number-cast-push-byte-2 t)
+    (push-number-add-push-byte-2 t)
+    (push-number-push-byte-requires-2 t)
+    (push-number-returns-2 t)

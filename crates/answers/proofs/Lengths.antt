@@ -1,0 +1,75 @@
+-- How long the items of an answer are.
+use Prim.Native.Nat.{ℕ, suc, _+_, _<_, _≤_, _^_}
+use native.Mathlib.Omega.{arith}
+use mathlib.Core.Path.{_≡_}
+use lib.IntN.{ℤ, pos, negsuc, natAbs}
+use lib.ListN.{length, length-append}
+use mir.Syntax.{w64}
+use mir.Val.{Fits, SFits}
+use Rattle.circuit.specs.declared.Spot.{Spot}
+use Rattle.circuit.specs.declared.Gate.{Gate}
+use Rattle.circuit.specs.declared.Gate.the-variants.{Ccz, Cz, Cnot}
+use Rattle.text.specs.Spelling.{bytes, decimal, signedDecimal, spelledSpot, spelledGate}
+use Rattle.text.proofs.DecimalUnique.{decimal-length}
+use Rattle.answers.specs.declared.Answer.{Answer}
+use Rattle.answers.specs.declared.Answer.the-variants.{Ok, Left, Amplitude, Readout, Terms, Listed, Refused}
+use Rattle.answers.specs.Answers.{bytesOf}
+use Rattle.answers.proofs.Signed.{distance-bound}
+
+-- A sign is one byte more.
+pub signed-length : (k : ℕ) (s : ℤ) → natAbs s < 10 ^ k → 1 ≤ k → length (signedDecimal s) ≤ suc k
+unfolding signedDecimal
+signed-length k (pos n) h j = omega (arith, decimal-length k n h j)
+signed-length k (negsuc n) h j = omega (arith, decimal-length k (suc n) h j)
+
+pub spot-length : (p : Spot) → length (spelledSpot p) ≡ length (decimal (p .position)) + 4
+unfolding spelledSpot
+spot-length p = rw (length-append (decimal (p .position)) (bytes ")")) (omega arith)
+
+-- ---- of numbers as the code holds them
+
+pub decimal-word : (n : ℕ) → Fits w64 n → length (decimal n) ≤ 20
+decimal-word n f = decimal-length 20 n (omega (arith, f .fits)) (omega arith)
+
+pub signed-word : (s : ℤ) → SFits w64 s → length (signedDecimal s) ≤ 20
+signed-word s f = signed-length 19 s (omega (arith, distance-bound s f)) (omega arith)
+
+-- ---- of answers as the engine gives them
+
+-- Positions and numbers within what the engine can hold, with room to spare.
+abbrev pub ModestGate : Gate → Type 0
+ModestGate (Ccz i j k) = (i < 100) × (j < 100) × (k < 100)
+ModestGate (Cz p q) = (p .position < 100) × (q .position < 100)
+ModestGate (Cnot C c t) = (c < 100) × (t < 100)
+
+abbrev pub Modest : Answer → Type 0
+Modest Ok = Unit {0}
+Modest (Left l) = l < 2 ^ 17
+Modest (Amplitude s n) = (natAbs s < 2 ^ 49) × (n < 100)
+Modest (Readout t n) = (t < 2 ^ 49) × (n < 100)
+Modest (Terms n) = n < 10000
+Modest (Listed g) = ModestGate g
+Modest (Refused e) = e < 100
+
+two-digits : (n : ℕ) → n < 100 → length (decimal n) ≤ 2
+two-digits n h = decimal-length 2 n h (omega arith)
+
+gate-fits : (g : Gate) → ModestGate g → length (spelledGate g) ≤ 64
+unfolding spelledGate
+gate-fits (Ccz i j k) h = simp length-append (omega (arith, two-digits i (h .0), two-digits j (h .1), two-digits k (h .2)))
+gate-fits (Cz p q) h =
+    simp (length-append, spot-length) (omega (arith, two-digits (p .position) (h .0), two-digits (q .position) (h .1)))
+gate-fits (Cnot C c t) h = simp length-append (omega (arith, two-digits c (h .0), two-digits t (h .1)))
+
+-- No answer of the engine is longer than the 64 bytes that it asks for.
+pub answer-fits : (a : Answer) → Modest a → length (bytesOf a) ≤ 64
+unfolding bytesOf
+answer-fits Ok h = omega arith
+answer-fits (Left l) h = simp length-append (omega (arith, decimal-length 6 l (omega arith) (omega arith)))
+answer-fits (Amplitude s n) h =
+    simp length-append (omega (arith, signed-length 15 s (omega arith) (omega arith), two-digits n (h .1)))
+answer-fits (Readout t n) h =
+    simp length-append (omega (arith, decimal-length 15 t (omega arith) (omega arith), two-digits n (h .1)))
+answer-fits (Terms n) h = simp length-append (omega (arith, decimal-length 4 n h (omega arith)))
+answer-fits (Listed g) h = gate-fits g h
+answer-fits (Refused e) h = simp length-append (omega (arith, two-digits e h))

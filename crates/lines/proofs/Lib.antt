@@ -1,0 +1,10 @@
+pub mod Reach
+pub mod Scanning
+pub mod LayerWalk
+pub mod GateSpelling
+pub mod LayerSpelling
+pub mod FormSpelling
+pub mod AllowedSpelling
+pub mod FormReading
+pub mod OneSpelling
+pub mod LayerLine

@@ -1,0 +1,109 @@
+-- Each item is read where `readCnot` reads it, and the first that is missing ends both.
+use mathlib.Core.Path.{sym, _∙_}
+use Rattle.lines.specs.Gates.{readCnot}
+use borrow.Author.Needs.{needs}
+use Rattle.lines.proofs.gates.cnot.Statement.{statement}
+use Rattle.lines.proofs.gates.cnot.Tie as tie
+
+read-colour-requires : tie.Need-read-colour-requires
+read-colour-requires c κs = search needs
+
+enum-known-colour : tie.Need-enum-known-colour
+enum-known-colour c = search needs
+
+enum-told : tie.Need-enum-told
+enum-told c = search needs
+
+returns : tie.Need-returns
+unfolding readCnot
+returns c = rw (sym (c .before .before .read-colour .ensures) ∙ c .enum-told .given .1)
+
+spaced-number-requires : tie.Need-spaced-number-requires
+spaced-number-requires c κs = search needs
+
+enum-known-control : tie.Need-enum-known-control
+enum-known-control c = search needs
+
+enum-told-2 : tie.Need-enum-told-2
+enum-told-2 c = search needs
+
+returns-2 : tie.Need-returns-2
+unfolding readCnot
+returns-2 c =
+    rw (
+      sym (c .before .before .before .before .before .before .read-colour .ensures) ∙ c .before .before .before .before .colour .given .1,
+      sym (c .before .before .spaced-number .ensures) ∙ c .enum-told2 .given .1,
+    )
+
+spaced-number-requires-2 : tie.Need-spaced-number-requires-2
+spaced-number-requires-2 c κs = search needs
+
+enum-known-target : tie.Need-enum-known-target
+enum-known-target c = search needs
+
+enum-told-3 : tie.Need-enum-told-3
+enum-told-3 c = search needs
+
+returns-3 : tie.Need-returns-3
+unfolding readCnot
+returns-3 c =
+    rw (
+      sym (c .before .before .before .before .before .before .before .before .before .before .read-colour .ensures) ∙ c .before .before .before .before .before .before .before .before .colour .given .1,
+      sym (c .before .before .before .before .before .before .spaced-number .ensures) ∙ c .before .before .before .before .control .given .1,
+      sym (c .before .before .spaced-number2 .ensures) ∙ c .enum-told3 .given .1,
+    )
+
+slice-aggregate-read-keyword : tie.Need-slice-aggregate-read-keyword
+slice-aggregate-read-keyword c = search needs
+
+read-keyword-requires : tie.Need-read-keyword-requires
+read-keyword-requires c κs = search needs
+
+enum-known-next : tie.Need-enum-known-next
+enum-known-next c = search needs
+
+enum-told-4 : tie.Need-enum-told-4
+enum-told-4 c = search needs
+
+returns-4 : tie.Need-returns-4
+unfolding readCnot
+returns-4 c =
+    rw (
+      sym (c .before .before .before .before .before .before .before .before .before .before .before .before .before .before .before .read-colour .ensures) ∙ c .before .before .before .before .before .before .before .before .before .before .before .before .before .colour .given .1,
+      sym (c .before .before .before .before .before .before .before .before .before .before .before .spaced-number .ensures) ∙ c .before .before .before .before .before .before .before .before .before .control .given .1,
+      sym (c .before .before .before .before .before .before .before .spaced-number2 .ensures) ∙ c .before .before .before .before .before .target .given .1,
+      sym (c .before .before .read-keyword .ensures) ∙ c .enum-told4 .given .1,
+    )
+
+returns-5 : tie.Need-returns-5
+unfolding readCnot
+returns-5 c =
+    rw (
+      sym (c .before .before .before .before .before .before .before .before .before .before .before .before .before .before .before .before .read-colour .ensures) ∙ c .before .before .before .before .before .before .before .before .before .before .before .before .before .before .colour .given .1,
+      sym (c .before .before .before .before .before .before .before .before .before .before .before .before .spaced-number .ensures) ∙ c .before .before .before .before .before .before .before .before .before .before .control .given .1,
+      sym (c .before .before .before .before .before .before .before .before .spaced-number2 .ensures) ∙ c .before .before .before .before .before .before .target .given .1,
+      sym (c .before .before .before .read-keyword .ensures) ∙ c .before .next .given .1,
+    )
+
+pub cnot-spec : {M : Type 1} → statement M
+cnot-spec =
+    tie.close
+    (tie.spec
+    read-colour-requires
+    enum-known-colour
+    enum-told
+    returns
+    spaced-number-requires
+    enum-known-control
+    enum-told-2
+    returns-2
+    spaced-number-requires-2
+    enum-known-target
+    enum-told-3
+    returns-3
+    slice-aggregate-read-keyword
+    read-keyword-requires
+    enum-known-next
+    enum-told-4
+    returns-4
+    returns-5)

@@ -1,0 +1,113 @@
+-- Each item is read where `readCz` reads it, and the first that is missing ends both.
+use mathlib.Core.Path.{sym, _∙_}
+use Rattle.lines.specs.Gates.{readCz}
+use borrow.Author.Needs.{needs}
+use Rattle.lines.proofs.gates.cz.Statement.{statement}
+use Rattle.lines.proofs.gates.cz.Tie as tie
+
+spot-requires : tie.Need-spot-requires
+spot-requires c κs = search needs
+
+enum-known-p : tie.Need-enum-known-p
+enum-known-p c = search needs
+
+enum-told : tie.Need-enum-told
+enum-told c = search needs
+
+returns : tie.Need-returns
+unfolding readCz
+returns c = rw (sym (c .before .before .spot .ensures) ∙ c .enum-told .given .1)
+
+slice-aggregate-read-keyword : tie.Need-slice-aggregate-read-keyword
+slice-aggregate-read-keyword c = search needs
+
+read-keyword-requires : tie.Need-read-keyword-requires
+read-keyword-requires c κs = search needs
+
+enum-known-d : tie.Need-enum-known-d
+enum-known-d c = search needs
+
+enum-told-2 : tie.Need-enum-told-2
+enum-told-2 c = search needs
+
+returns-2 : tie.Need-returns-2
+unfolding readCz
+returns-2 c =
+    rw (
+      sym (c .before .before .before .before .before .before .before .spot .ensures) ∙ c .before .before .before .before .before .p .given .1,
+      sym (c .before .before .read-keyword .ensures) ∙ c .enum-told2 .given .1,
+    )
+
+spot-requires-2 : tie.Need-spot-requires-2
+spot-requires-2 c κs = search needs
+
+enum-known-q : tie.Need-enum-known-q
+enum-known-q c = search needs
+
+enum-told-3 : tie.Need-enum-told-3
+enum-told-3 c = search needs
+
+returns-3 : tie.Need-returns-3
+unfolding readCz
+returns-3 c =
+    rw (
+      sym (c .before .before .before .before .before .before .before .before .before .before .before .spot .ensures) ∙ c .before .before .before .before .before .before .before .before .before .p .given .1,
+      sym (c .before .before .before .before .before .before .read-keyword .ensures) ∙ c .before .before .before .before .d .given .1,
+      sym (c .before .before .spot2 .ensures) ∙ c .enum-told3 .given .1,
+    )
+
+slice-aggregate-read-keyword-2 : tie.Need-slice-aggregate-read-keyword-2
+slice-aggregate-read-keyword-2 c = search needs
+
+read-keyword-requires-2 : tie.Need-read-keyword-requires-2
+read-keyword-requires-2 c κs = search needs
+
+enum-known-next : tie.Need-enum-known-next
+enum-known-next c = search needs
+
+enum-told-4 : tie.Need-enum-told-4
+enum-told-4 c = search needs
+
+returns-4 : tie.Need-returns-4
+unfolding readCz
+returns-4 c =
+    rw (
+      sym (c .before .before .before .before .before .before .before .before .before .before .before .before .before .before .before .before .spot .ensures) ∙ c .before .before .before .before .before .before .before .before .before .before .before .before .before .before .p .given .1,
+      sym (c .before .before .before .before .before .before .before .before .before .before .before .read-keyword .ensures) ∙ c .before .before .before .before .before .before .before .before .before .d .given .1,
+      sym (c .before .before .before .before .before .before .before .spot2 .ensures) ∙ c .before .before .before .before .before .q .given .1,
+      sym (c .before .before .read-keyword2 .ensures) ∙ c .enum-told4 .given .1,
+    )
+
+returns-5 : tie.Need-returns-5
+unfolding readCz
+returns-5 c =
+    rw (
+      sym (c .before .before .before .before .before .before .before .before .before .before .before .before .before .before .before .before .before .spot .ensures) ∙ c .before .before .before .before .before .before .before .before .before .before .before .before .before .before .before .p .given .1,
+      sym (c .before .before .before .before .before .before .before .before .before .before .before .before .read-keyword .ensures) ∙ c .before .before .before .before .before .before .before .before .before .before .d .given .1,
+      sym (c .before .before .before .before .before .before .before .before .spot2 .ensures) ∙ c .before .before .before .before .before .before .q .given .1,
+      sym (c .before .before .before .read-keyword2 .ensures) ∙ c .before .next .given .1,
+    )
+
+pub cz-spec : {M : Type 1} → statement M
+cz-spec =
+    tie.close
+    (tie.spec
+    spot-requires
+    enum-known-p
+    enum-told
+    returns
+    slice-aggregate-read-keyword
+    read-keyword-requires
+    enum-known-d
+    enum-told-2
+    returns-2
+    spot-requires-2
+    enum-known-q
+    enum-told-3
+    returns-3
+    slice-aggregate-read-keyword-2
+    read-keyword-requires-2
+    enum-known-next
+    enum-told-4
+    returns-4
+    returns-5)

@@ -1,0 +1,100 @@
+-- What a line is read as: a form, or the refusal that it gets (document 01, "Where a line is turned back", places Line and Form).
+use Prim.Native.Nat.{ℕ, zero, suc, _+_}
+use mathlib.Core.Bool.{Bool, true, false, cond, _&&_, _||_}
+use mathlib.Core.List.{List, [], _∷_}
+use lib.Dec.{eqb, leb, ltb}
+use lib.ListN.{length, drop}
+use Rattle.text.specs.Spelling.{bytes}
+use Rattle.text.specs.Reading.{readKeyword, readNumber, readColour, spacedBits, afterKeyword, withNumber, withColour, withBits}
+use Rattle.lines.specs.declared.Form.{Form}
+use Rattle.lines.specs.declared.Form.the-variants as Form
+use Rattle.lines.specs.Spelling.{colourTwice, gateForm}
+use Rattle.lines.specs.Gates.{withGate, readGate}
+
+-- Refusal 3: "a byte other than digits, a to z, ( ) and space"
+unfoldable pub isAllowed : ℕ → Bool
+isAllowed x = (leb 48 x && leb x 57) || ((leb 97 x && leb x 122) || (eqb x 40 || (eqb x 41 || eqb x 32)))
+
+unfoldable pub allAllowed : List ℕ → Bool
+allAllowed [] = true
+allAllowed (x ∷ xs) = isAllowed x && allAllowed xs
+
+-- The line ends at a place.
+unfoldable pub ended : List ℕ → ℕ → Form → Form
+ended l at f = cond (eqb at (length l)) f (Form.Refused 4)
+
+-- The closing bracket, and the end.
+unfoldable pub closed : List ℕ → ℕ → Form → Form
+closed l at f = afterKeyword (Form.Refused 4) (readKeyword l at (bytes ")")) λ e. ended l e f
+
+unfoldable pub circuitFrom : List ℕ → ℕ → Form
+circuitFrom l a = withNumber (Form.Refused 4) (readNumber l a) λ k b. closed l b (Form.Circuit k)
+
+unfoldable pub undoFrom : List ℕ → ℕ → Form
+undoFrom l a = withNumber (Form.Refused 4) (readNumber l a) λ k b. closed l b (Form.Undo k)
+
+unfoldable pub stepFrom : List ℕ → ℕ → Form
+stepFrom l a = withNumber (Form.Refused 4) (readNumber l a) λ k b. closed l b (Form.Step k)
+
+unfoldable pub startFrom : List ℕ → ℕ → Form
+startFrom l a =
+    withBits (Form.Refused 4) (spacedBits l a) λ x b.
+    withBits (Form.Refused 4) (spacedBits l b) λ y d.
+    withBits (Form.Refused 4) (spacedBits l d) λ z e.
+    closed l e (Form.Start x y z)
+
+unfoldable pub ampFrom : List ℕ → ℕ → Form
+ampFrom l o =
+    withColour (Form.Refused 4) (readColour l o) λ c a.
+    withBits (Form.Refused 4) (spacedBits l a) λ x b.
+    withBits (Form.Refused 4) (spacedBits l b) λ y d.
+    withBits (Form.Refused 4) (spacedBits l d) λ z e.
+    closed l e (Form.Amp c x y z)
+
+unfoldable pub partFrom : List ℕ → ℕ → Form
+partFrom l o =
+    withColour (Form.Refused 4) (readColour l o) λ c a.
+    withBits (Form.Refused 4) (spacedBits l a) λ x b.
+    withBits (Form.Refused 4) (spacedBits l b) λ y d.
+    closed l d (Form.Part c x y)
+
+-- The gates of a layer from here on: `skip` bytes of the last one are still to be passed, n gates are, and `twice` tells of a `cz` with
+-- one colour twice among them. "4 before 5": that is refused only at the line's end.
+unfoldable pub layerFrom : ℕ → ℕ → Bool → List ℕ → Form
+layerFrom skip n twice [] = Form.Refused 4
+layerFrom (suc skip) n twice (x ∷ xs) = layerFrom skip n twice xs
+layerFrom zero n twice (x ∷ xs) =
+    cond (eqb x 32) (withGate (Form.Refused 4) (readGate xs) λ g e. layerFrom e (n + 1) (twice || colourTwice g) xs)
+    (cond (eqb x 41) (cond (eqb (length xs) 0) (cond twice (Form.Refused 5) (Form.Layer n)) (Form.Refused 4)) (Form.Refused 4))
+
+-- A line that is one gate.
+unfoldable pub gateLine : List ℕ → Form
+gateLine l =
+    withGate (Form.Refused 4) (readGate l) λ g e.
+    ended l e (cond (colourTwice g) (Form.Refused 5) (gateForm g))
+
+-- Refusals 4 and 5: "not one of the twelve forms, or a bit string holds another digit", "a `cz` with one colour twice"
+unfoldable pub shapeOf : List ℕ → Form
+shapeOf l =
+    afterKeyword
+    (afterKeyword
+    (afterKeyword
+    (afterKeyword
+    (afterKeyword
+    (afterKeyword
+    (afterKeyword
+    (afterKeyword
+    (afterKeyword (gateLine l) (readKeyword l 0 (bytes "(terms)")) λ a. ended l a Form.Terms)
+    (readKeyword l 0 (bytes "(drop)")) λ a. ended l a Form.Drop)
+    (readKeyword l 0 (bytes "(step ")) (stepFrom l))
+    (readKeyword l 0 (bytes "(part ")) (partFrom l))
+    (readKeyword l 0 (bytes "(amp ")) (ampFrom l))
+    (readKeyword l 0 (bytes "(start")) (startFrom l))
+    (readKeyword l 0 (bytes "(undo ")) (undoFrom l))
+    (readKeyword l 0 (bytes "(layer")) λ a. layerFrom 0 0 false (drop a l))
+    (readKeyword l 0 (bytes "(circuit ")) (circuitFrom l)
+
+-- Refusals 2 and 3 before them: "longer than 1,024 bytes, line feed not counted", "holds a byte other than ..".
+-- A line of no bytes has no form; the engine skips it before it is read.
+unfoldable pub formOf : List ℕ → Form
+formOf l = cond (ltb 1024 (length l)) (Form.Refused 2) (cond (allAllowed l) (shapeOf l) (Form.Refused 3))

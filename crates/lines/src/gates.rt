@@ -1,0 +1,152 @@
+// The three gates, each read at the front of a part of a line.
+ghost use mathlib.Core.Path.{_≡_};
+ghost use Rattle.lines.specs.Gates.{readCcz, readSpot, readCz, readCnot, readGate, gatePart, layerGateAt};
+use crate::GateAt;
+use crate::SpotAt;
+use circuit::Gate;
+use circuit::Spot;
+use text::ColourAt;
+use text::KeywordAt;
+use text::NumberAt;
+use text::read_colour;
+use text::read_keyword;
+use text::read_number;
+use text::spaced_number;
+
+fn ccz(line: &[u8], a: usize) -> GateAt
+    ensures { λ r. ⌜ r ≡ readCcz (now (line .entry)) a ⌝ }
+{
+    let NumberAt::Read { value: i, next: b } = read_number(line, a) else {
+        return GateAt::Missing;
+    };
+    let NumberAt::Read { value: j, next: d } = spaced_number(line, b) else {
+        return GateAt::Missing;
+    };
+    let NumberAt::Read { value: k, next: e } = spaced_number(line, d) else {
+        return GateAt::Missing;
+    };
+    let KeywordAt::Ends(next) = read_keyword(line, e, b")") else {
+        return GateAt::Missing;
+    };
+    GateAt::Read {
+        gate: Gate::Ccz(i, j, k),
+        next,
+    }
+}
+
+fn spot(line: &[u8], at: usize) -> SpotAt
+    ensures { λ r. ⌜ r ≡ readSpot (now (line .entry)) at ⌝ }
+{
+    let KeywordAt::Ends(a) = read_keyword(line, at, b"(") else {
+        return SpotAt::Missing;
+    };
+    let ColourAt::Read { colour, next: b } = read_colour(line, a) else {
+        return SpotAt::Missing;
+    };
+    let NumberAt::Read {
+        value: position,
+        next: d,
+    } = spaced_number(line, b)
+    else {
+        return SpotAt::Missing;
+    };
+    let KeywordAt::Ends(next) = read_keyword(line, d, b")") else {
+        return SpotAt::Missing;
+    };
+    SpotAt::Read {
+        spot: Spot { colour, position },
+        next,
+    }
+}
+
+fn cz(line: &[u8], a: usize) -> GateAt
+    ensures { λ r. ⌜ r ≡ readCz (now (line .entry)) a ⌝ }
+{
+    let SpotAt::Read { spot: p, next: b } = spot(line, a) else {
+        return GateAt::Missing;
+    };
+    let KeywordAt::Ends(d) = read_keyword(line, b, b" ") else {
+        return GateAt::Missing;
+    };
+    let SpotAt::Read { spot: q, next: e } = spot(line, d) else {
+        return GateAt::Missing;
+    };
+    let KeywordAt::Ends(next) = read_keyword(line, e, b")") else {
+        return GateAt::Missing;
+    };
+    GateAt::Read {
+        gate: Gate::Cz(p, q),
+        next,
+    }
+}
+
+fn cnot(line: &[u8], a: usize) -> GateAt
+    ensures { λ r. ⌜ r ≡ readCnot (now (line .entry)) a ⌝ }
+{
+    let ColourAt::Read { colour, next: b } = read_colour(line, a) else {
+        return GateAt::Missing;
+    };
+    let NumberAt::Read {
+        value: control,
+        next: d,
+    } = spaced_number(line, b)
+    else {
+        return GateAt::Missing;
+    };
+    let NumberAt::Read {
+        value: target,
+        next: e,
+    } = spaced_number(line, d)
+    else {
+        return GateAt::Missing;
+    };
+    let KeywordAt::Ends(next) = read_keyword(line, e, b")") else {
+        return GateAt::Missing;
+    };
+    GateAt::Read {
+        gate: Gate::Cnot(colour, control, target),
+        next,
+    }
+}
+
+// The gate at the front of `line`, and the place after it.
+pub fn first_gate(line: &[u8]) -> GateAt
+    ensures { λ r. ⌜ r ≡ readGate (now (line .entry)) ⌝ }
+{
+    if let KeywordAt::Ends(a) = read_keyword(line, 0, b"(ccz ") {
+        return ccz(line, a);
+    }
+    if let KeywordAt::Ends(a) = read_keyword(line, 0, b"(cz ") {
+        return cz(line, a);
+    }
+    if let KeywordAt::Ends(a) = read_keyword(line, 0, b"(cnot ") {
+        return cnot(line, a);
+    }
+    GateAt::Missing
+}
+
+// "each as a part of the line itself, brackets included"; no bytes where there is no gate.
+pub fn gate_part(line: &[u8]) -> &[u8]
+    ensures { λ r. ⌜ now r ≡ gatePart (now (line .entry)) ⌝ }
+{
+    let GateAt::Read { gate: _, next } = first_gate(line) else {
+        return &line[0..0];
+    };
+    &line[0..next]
+}
+
+// The gate of a layer line behind the space at `at`, and the place after it in the whole line.
+pub fn layer_gate(line: &[u8], at: usize) -> GateAt
+    ensures { λ r. ⌜ r ≡ layerGateAt (now (line .entry)) at ⌝ }
+{
+    let KeywordAt::Ends(from) = read_keyword(line, at, b" ") else {
+        return GateAt::Missing;
+    };
+    let GateAt::Read { gate, next } = first_gate(&line[from..]) else {
+        return GateAt::Missing;
+    };
+    GateAt::Read {
+        gate,
+        next: from + next,
+    }
+}

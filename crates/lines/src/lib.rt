@@ -1,0 +1,128 @@
+// A line read as a form: refusals 2 to 5 of document 01.
+ghost use mathlib.Core.Path.{_≡_};
+ghost use Rattle.lines.specs.Forms.{isAllowed, allAllowed, shapeOf, formOf};
+use circuit::Colour;
+use circuit::Gate;
+use circuit::Spot;
+use text::Bits;
+use text::KeywordAt;
+use text::read_keyword;
+
+mod forms;
+pub mod gates;
+
+// The twelve forms with their operands, and the refusal of a line that is none of them.
+pub enum Form {
+    Circuit(usize),
+    Ccz(usize, usize, usize),
+    Cz(Spot, Spot),
+    Cnot(Colour, usize, usize),
+    // How many gates the layer has.
+    Layer(usize),
+    Undo(usize),
+    Start(Bits, Bits, Bits),
+    Amp(Colour, Bits, Bits, Bits),
+    Part(Colour, Bits, Bits),
+    Step(usize),
+    Drop,
+    Terms,
+    Refused(u8),
+}
+
+pub enum SpotAt {
+    Read { spot: Spot, next: usize },
+    Missing,
+}
+
+pub enum GateAt {
+    Read { gate: Gate, next: usize },
+    Missing,
+}
+
+// "digits, a to z, ( ) and space"
+fn allowed(b: u8) -> bool
+    ensures { λ r. ⌜ r ≡ isAllowed b ⌝ }
+{
+    if b == b' ' {
+        return true;
+    }
+    if b == b'(' {
+        return true;
+    }
+    if b == b')' {
+        return true;
+    }
+    if b < b'0' {
+        return false;
+    }
+    if b <= b'9' {
+        return true;
+    }
+    if b < b'a' {
+        return false;
+    }
+    if b <= b'z' {
+        return true;
+    }
+    false
+}
+
+fn all_allowed(line: &[u8]) -> bool
+    ensures { λ r. ⌜ r ≡ allAllowed (now (line .entry)) ⌝ }
+{
+    let mut i = 0;
+    while i < line.len() {
+        if !allowed(line[i]) {
+            return false;
+        }
+        i += 1;
+    }
+    true
+}
+
+// "Keywords are compared byte for byte with the spellings above."
+fn shape(line: &[u8]) -> Form
+    ensures { λ r. ⌜ r ≡ shapeOf (now (line .entry)) ⌝ }
+{
+    if let KeywordAt::Ends(a) = read_keyword(line, 0, b"(circuit ") {
+        return forms::circuit(line, a);
+    }
+    if let KeywordAt::Ends(a) = read_keyword(line, 0, b"(layer") {
+        return forms::layer(line, a);
+    }
+    if let KeywordAt::Ends(a) = read_keyword(line, 0, b"(undo ") {
+        return forms::undo(line, a);
+    }
+    if let KeywordAt::Ends(a) = read_keyword(line, 0, b"(start") {
+        return forms::start(line, a);
+    }
+    if let KeywordAt::Ends(a) = read_keyword(line, 0, b"(amp ") {
+        return forms::amp(line, a);
+    }
+    if let KeywordAt::Ends(a) = read_keyword(line, 0, b"(part ") {
+        return forms::part(line, a);
+    }
+    if let KeywordAt::Ends(a) = read_keyword(line, 0, b"(step ") {
+        return forms::step(line, a);
+    }
+    if let KeywordAt::Ends(a) = read_keyword(line, 0, b"(drop)") {
+        return forms::ended(line, a, Form::Drop);
+    }
+    if let KeywordAt::Ends(a) = read_keyword(line, 0, b"(terms)") {
+        return forms::ended(line, a, Form::Terms);
+    }
+    forms::gate_line(line)
+}
+
+// The place Line of document 01, and then the place Form.
+pub fn read(line: &[u8]) -> Form
+    ensures { λ r. ⌜ r ≡ formOf (now (line .entry)) ⌝ }
+{
+    if 1024 < line.len() {
+        return Form::Refused(2);
+    }
+    if !all_allowed(line) {
+        return Form::Refused(3);
+    }
+    shape(line)
+}

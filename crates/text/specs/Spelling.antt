@@ -1,0 +1,63 @@
+-- How the items of a line are spelled (document 01, "Bracket lines").
+use Prim.Native.Nat.{ℕ, zero, suc, _+_, _*_, _/_, _%_}
+use Prim.Native.String.{String, [] as none, _∷_ as _then_}
+use Prim.Native.Char.{code}
+use mathlib.Core.Bool.{Bool, true, false, cond}
+use mathlib.Core.List.{List, [], _∷_, _++_}
+use lib.Dec.{ltb}
+use lib.IntN.{ℤ, pos, negsuc}
+use Rattle.gf2.specs.Strings.{BitString}
+use Rattle.circuit.specs.declared.Colour.{Colour}
+use Rattle.circuit.specs.declared.Colour.the-variants.{Red, Blue, Green}
+use Rattle.circuit.specs.declared.Spot.{Spot}
+use Rattle.circuit.specs.declared.Gate.{Gate}
+use Rattle.circuit.specs.declared.Gate.the-variants.{Ccz, Cz, Cnot}
+
+-- The bytes of a keyword.
+abbrev pub bytes : String → List ℕ
+bytes none = []
+bytes (c then s) = code c ∷ bytes s
+
+-- The digits of n, at most as many as the first number says.
+unfoldable pub digits : ℕ → ℕ → List ℕ
+digits zero n = []
+digits (suc k) n = cond (ltb n 10) ((48 + n) ∷ []) (digits k (n / 10) ++ ((48 + n % 10) ∷ []))
+
+-- "Numbers are in base ten without leading zeros; 0 is the digit alone." A number has no more digits than n + 1.
+unfoldable pub decimal : ℕ → List ℕ
+decimal n = digits (suc n) n
+
+-- "S with a minus sign where negative"
+unfoldable pub signedDecimal : ℤ → List ℕ
+signedDecimal (pos n) = decimal n
+signedDecimal (negsuc n) = 45 ∷ decimal (suc n)
+
+-- "C is a colour letter."
+abbrev pub letter : Colour → ℕ
+letter Red = 114
+letter Blue = 98
+letter Green = 103
+
+-- "Bit strings R, B, G are one or more digits 0 and 1, position 1 first."
+unfoldable pub bitDigits : BitString → List ℕ
+bitDigits [] = []
+bitDigits (b ∷ bs) = cond b 49 48 ∷ bitDigits bs
+
+-- The number that a bit string is, position 1 the highest digit.
+unfoldable pub numberFrom : ℕ → BitString → ℕ
+numberFrom v [] = v
+numberFrom v (b ∷ bs) = numberFrom (v * 2 + cond b 1 0) bs
+
+unfoldable pub numberOfBits : BitString → ℕ
+numberOfBits s = numberFrom 0 s
+
+-- A position of a colour in its brackets: (C i)
+unfoldable pub spelledSpot : Spot → List ℕ
+spelledSpot p = bytes "(" ++ (letter (p .colour) ∷ (bytes " " ++ (decimal (p .position) ++ bytes ")")))
+
+-- "`(ccz i j k)` positions in r, b, g. `(cz (C i) (C j))` .. `(cnot C control target)`"
+unfoldable pub spelledGate : Gate → List ℕ
+spelledGate (Ccz i j k) = bytes "(ccz " ++ (decimal i ++ (bytes " " ++ (decimal j ++ (bytes " " ++ (decimal k ++ bytes ")")))))
+spelledGate (Cz p q) = bytes "(cz " ++ (spelledSpot p ++ (bytes " " ++ (spelledSpot q ++ bytes ")")))
+spelledGate (Cnot C c t) =
+    bytes "(cnot " ++ (letter C ∷ (bytes " " ++ (decimal c ++ (bytes " " ++ (decimal t ++ bytes ")")))))
