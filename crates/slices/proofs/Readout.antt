@@ -1,0 +1,202 @@
+-- The readout count T: 2^(3m) times T is the sum of S squared over the strings of the colour unread, and all T add up to 2^(3m).
+use mathlib.Core.Path.{_≡_, refl, sym, _∙_, ap, ap₂, subst}
+use mathlib.Core.Logic.{inl, inr}
+use mathlib.Core.Bool.{Bool, true, false, cond}
+use mathlib.Core.List.{List, [], _∷_}
+use Prim.Native.Nat.{ℕ, zero, suc, _+_, _-_, _*_, _/_, _^_, _≤_, _<_}
+use native.Mathlib.Nat.{mul-div-cancel-left}
+use native.Mathlib.Omega.{arith}
+use lib.ListN.{length}
+use lib.Pow.{pow-pos, pow-add}
+use lib.IntN.{ℤ, pos, natAbs, _+ℤ_, _*ℤ_, *ℤ-zero, pos-+ℤ-pos}
+use Rattle.gf2.specs.Strings.{BitString, _⊕_, dot}
+use Rattle.gf2.specs.Sums.{sum, sumBelow, sgn}
+use Rattle.gf2.specs.Words.{highFirst}
+use Rattle.gf2.proofs.Integers.{ring, *ℤ-assoc, one-*ℤ, negone-*ℤ}
+use Rattle.gf2.proofs.Bits.{sgn-⊕}
+use Rattle.gf2.proofs.Sums.{sum-cong, sum-ext, sum-mul, sum-const, sum-swap}
+use Rattle.gf2.proofs.Parseval.{walsh, square, parseval}
+use Rattle.gf2.proofs.HighFirst.{sum-highFirst}
+use Rattle.circuit.specs.declared.Colour.{Colour}
+use Rattle.circuit.specs.declared.Gate.{Gate}
+use Rattle.circuit.specs.Colours.{join}
+use Rattle.circuit.specs.Sum.{areGates, signedSum}
+use Rattle.circuit.specs.Polynomial.{Polynomial, polynomial, value}
+use Rattle.circuit.proofs.Three.{the-join, first-join, second-join}
+use Rattle.slices.specs.Slices.{gamma, innerSum}
+use Rattle.slices.specs.Rank.{tally, rank}
+use Rattle.slices.specs.Totals.{isNought, share, tallyBelow, readoutAfter, readoutCount}
+use Rattle.slices.proofs.Slicing.{signedSum-by-slices}
+use Rattle.slices.proofs.Rank.{tally-sum, IsPower, rank-le, innerSum-size}
+
+-- The readout count as a sum over strings.
+unfoldable readoutTally : ℕ → Polynomial → Colour → BitString → BitString → ℕ
+readoutTally m f C X Y = tally m (share m f C X Y)
+
+sq-signed : (s : Bool) (x : ℤ) → square (sgn s *ℤ x) ≡ square x
+unfolding square sgn
+sq-signed false x = ap (λ y. y *ℤ y) (one-*ℤ x)
+sq-signed true x = ap (λ y. y *ℤ y) (negone-*ℤ x) ∙ simp ring
+
+-- a signedPower of two with a sign is not 0
+pub nought-signed : (s : Bool) (n : ℕ) → 0 < n → isNought (sgn s *ℤ pos n) ≡ false
+unfolding isNought sgn
+nought-signed s zero h = absurd (omega arith)
+nought-signed false (suc n) h = ap isNought (one-*ℤ (pos (suc n)))
+nought-signed true (suc n) h = ap isNought (negone-*ℤ (pos (suc n)))
+
+size-square : (k : ℕ) (x : ℤ) → IsPower k x → square x ≡ pos (cond (isNought x) 0 (2 ^ k * 2 ^ k))
+unfolding isNought square
+size-square k x (inl e) = subst (λ (y : ℤ). square y ≡ pos (cond (isNought y) 0 (2 ^ k * 2 ^ k))) (sym e) refl
+size-square k x (inr t) = subst (λ (y : ℤ). square y ≡ pos (cond (isNought y) 0 (2 ^ k * 2 ^ k))) (sym (t .1))
+    (sq-signed (t .0) (pos (2 ^ k)) ∙ sym (ap (λ (b : Bool). pos (cond b 0 (2 ^ k * 2 ^ k))) (nought-signed (t .0) (2 ^ k) (pow-pos k))))
+
+pub inner-square : (C : Colour) (m : ℕ) (f : Polynomial) (X Y z : BitString) → length X ≤ m → length Y ≤ m → square (innerSum m f C X Y z) ≡ pos (2 ^ (2 * m)) *ℤ pos (share m f C X Y z)
+unfolding share
+inner-square C m f X Y z hX hY = size-square (2 * m - r) (innerSum m f C X Y z) (innerSum-size C m f X Y z hX hY) ∙ go (isNought (innerSum m f C X Y z))
+  where
+    r : ℕ
+    r = rank m (gamma m f C z)
+
+    exponents : (2 * m - r) + (2 * m - r) ≡ 2 * m + (2 * m - 2 * r)
+    exponents = omega (arith, rank-le m (gamma m f C z))
+
+    go : (b : Bool) → pos (cond b 0 (2 ^ (2 * m - r) * 2 ^ (2 * m - r))) ≡ pos (2 ^ (2 * m)) *ℤ pos (cond b 0 (2 ^ (2 * m - 2 * r)))
+    go true = sym (*ℤ-zero (pos (2 ^ (2 * m))))
+    go false = ap pos (sym (pow-add 2 (2 * m - r) (2 * m - r)) ∙ ap (λ (n : ℕ). 2 ^ n) exponents ∙ pow-add 2 (2 * m) (2 * m - 2 * r))
+
+-- the squares of the pairSum sumAll, summed
+squares : (C : Colour) (m : ℕ) (f : Polynomial) (X Y : BitString) → length X ≤ m → length Y ≤ m → sum m (λ z. square (innerSum m f C X Y z)) ≡ pos (2 ^ (2 * m)) *ℤ pos (readoutTally m f C X Y)
+unfolding readoutTally
+squares C m f X Y hX hY =
+    sum-ext m (λ z. square (innerSum m f C X Y z)) (λ z. pos (2 ^ (2 * m)) *ℤ pos (share m f C X Y z)) (λ z. inner-square C m f X Y z hX hY)
+    ∙ sum-mul m (pos (2 ^ (2 * m))) (λ z. pos (share m f C X Y z))
+    ∙ ap (λ x. pos (2 ^ (2 * m)) *ℤ x) (tally-sum m (share m f C X Y))
+
+signedSum-walsh : (C : Colour) (m : ℕ) (gs : List Gate) (w X Y : BitString) → areGates m gs ≡ true → signedSum m gs (join C w X Y) ≡ walsh m (innerSum m (polynomial gs) C X Y) w
+unfolding walsh
+signedSum-walsh C m gs w X Y v = signedSum-by-slices C m gs (join C w X Y) v ∙ simp (the-join, first-join, second-join)
+
+readoutTally-squares : (C : Colour) (m : ℕ) (gs : List Gate) (X Y : BitString) → areGates m gs ≡ true → length X ≤ m → length Y ≤ m
+    → pos (2 ^ (3 * m)) *ℤ pos (readoutTally m (polynomial gs) C X Y) ≡ sum m (λ w. square (signedSum m gs (join C w X Y)))
+readoutTally-squares C m gs X Y v hX hY = sym (
+    sum-ext m (λ w. square (signedSum m gs (join C w X Y))) (λ w. square (walsh m (innerSum m (polynomial gs) C X Y) w)) (λ w. ap square (signedSum-walsh C m gs w X Y v))
+    ∙ parseval m (innerSum m (polynomial gs) C X Y)
+    ∙ ap (λ x. pos (2 ^ m) *ℤ x) (squares C m (polynomial gs) X Y hX hY)
+    ∙ sym (*ℤ-assoc (pos (2 ^ m)) (pos (2 ^ (2 * m))) (pos (readoutTally m (polynomial gs) C X Y)))
+    ∙ ap (λ (n : ℕ). pos n *ℤ pos (readoutTally m (polynomial gs) C X Y)) (sym (pow-add 2 m (2 * m)) ∙ ap (λ (n : ℕ). 2 ^ n) (three m)))
+  where
+    three : (m : ℕ) → m + 2 * m ≡ 3 * m
+    three m = omega arith
+
+parseval₂ : (m : ℕ) (g : BitString → BitString → ℤ) → sum m (λ X. sum m (λ Y. square (walsh m (λ u. walsh m (g u) Y) X))) ≡ pos (2 ^ m) *ℤ (pos (2 ^ m) *ℤ sum m (λ u. sum m (λ v. square (g u v))))
+parseval₂ m g =
+    sum-swap m m (λ X Y. square (walsh m (λ u. walsh m (g u) Y) X))
+    ∙ sum-ext m (λ Y. sum m (λ X. square (walsh m (λ u. walsh m (g u) Y) X))) (λ Y. pos (2 ^ m) *ℤ sum m (λ u. square (walsh m (g u) Y))) (λ Y. parseval m (λ u. walsh m (g u) Y))
+    ∙ sum-mul m (pos (2 ^ m)) (λ Y. sum m (λ u. square (walsh m (g u) Y)))
+    ∙ ap (λ x. pos (2 ^ m) *ℤ x)
+    (sum-swap m m (λ Y u. square (walsh m (g u) Y))
+    ∙ sum-ext m (λ u. sum m (λ Y. square (walsh m (g u) Y))) (λ u. pos (2 ^ m) *ℤ sum m (λ v. square (g u v))) (λ u. parseval m (g u))
+    ∙ sum-mul m (pos (2 ^ m)) (λ u. sum m (λ v. square (g u v))))
+
+-- the sign of the polynomial at a string
+unfoldable signAt : ℕ → Polynomial → Colour → BitString → BitString → BitString → ℤ
+signAt m f C z u v = sgn (value m f (join C z u v))
+
+innerSum-walsh : (C : Colour) (m : ℕ) (f : Polynomial) (X Y z : BitString) → innerSum m f C X Y z ≡ walsh m (λ u. walsh m (signAt m f C z u) Y) X
+unfolding innerSum walsh signAt
+innerSum-walsh C m f X Y z =
+    sum-ext m (λ u. sum m (λ v. sgn (value m f (join C z u v) ⊕ (dot X u ⊕ dot Y v)))) (λ u. sgn (dot X u) *ℤ sum m (λ v. sgn (dot Y v) *ℤ sgn (value m f (join C z u v))))
+    (λ u. sum-ext m (λ v. sgn (value m f (join C z u v) ⊕ (dot X u ⊕ dot Y v))) (λ v. sgn (dot X u) *ℤ (sgn (dot Y v) *ℤ sgn (value m f (join C z u v))))
+    (λ v. signs (value m f (join C z u v)) (dot X u) (dot Y v))
+    ∙ sum-mul m (sgn (dot X u)) (λ v. sgn (dot Y v) *ℤ sgn (value m f (join C z u v))))
+  where
+    signs : (t a b : Bool) → sgn (t ⊕ (a ⊕ b)) ≡ sgn a *ℤ (sgn b *ℤ sgn t)
+    signs t a b = sgn-⊕ t (a ⊕ b) ∙ ap (λ x. sgn t *ℤ x) (sgn-⊕ a b) ∙ simp ring
+
+sq-sgn : (b : Bool) → square (sgn b) ≡ pos 1
+unfolding square sgn
+sq-sgn true = refl
+sq-sgn false = refl
+
+-- over both output strings, for one slice
+slice-total : (C : Colour) (m : ℕ) (f : Polynomial) (z : BitString) → sum m (λ X. sum m (λ Y. square (innerSum m f C X Y z))) ≡ pos (2 ^ m * (2 ^ m * (1 * 2 ^ m * 2 ^ m)))
+unfolding signAt
+slice-total C m f z =
+    sum-ext m (λ X. sum m (λ Y. square (innerSum m f C X Y z))) (λ X. sum m (λ Y. square (walsh m (λ u. walsh m (signAt m f C z u) Y) X)))
+    (λ X. sum-ext m (λ Y. square (innerSum m f C X Y z)) (λ Y. square (walsh m (λ u. walsh m (signAt m f C z u) Y) X)) (λ Y. ap square (innerSum-walsh C m f X Y z)))
+    ∙ parseval₂ m (signAt m f C z)
+    ∙ ap (λ x. pos (2 ^ m) *ℤ (pos (2 ^ m) *ℤ x))
+    (sum-ext m (λ u. sum m (λ v. square (signAt m f C z u v))) (λ u. pos 1 *ℤ pos (2 ^ m))
+    (λ u. sum-ext m (λ v. square (signAt m f C z u v)) (λ v. pos 1) (λ v. sq-sgn (value m f (join C z u v))) ∙ sum-const m (pos 1))
+    ∙ sum-const m (pos 1 *ℤ pos (2 ^ m)))
+
+tally₂-sum : (m : ℕ) (f : BitString → BitString → ℕ) → sum m (λ X. sum m (λ Y. pos (f X Y))) ≡ pos (tally m (λ X. tally m (λ Y. f X Y)))
+tally₂-sum m f = sum-ext m (λ X. sum m (λ Y. pos (f X Y))) (λ X. pos (tally m (λ Y. f X Y))) (λ X. tally-sum m (λ Y. f X Y)) ∙ tally-sum m (λ X. tally m (λ Y. f X Y))
+
+readoutTally-total : (C : Colour) (m : ℕ) (f : Polynomial) → tally m (λ X. tally m (λ Y. readoutTally m f C X Y)) ≡ 2 ^ (3 * m)
+readoutTally-total C m f =
+    sym (mul-div-cancel-left T (pow-pos (2 * m))) ∙ ap (λ (n : ℕ). n / 2 ^ (2 * m)) (ap natAbs scaled) ∙ mul-div-cancel-left (2 ^ (3 * m)) (pow-pos (2 * m))
+  where
+    T : ℕ
+    T = tally m (λ X. tally m (λ Y. readoutTally m f C X Y))
+
+    powers : (p : ℕ) → p * (p * (1 * p * p)) * p ≡ p * p * (p * (p * p))
+    powers p = omega arith
+
+    twice : 2 ^ (2 * m) ≡ 2 ^ m * 2 ^ m
+    twice = ap (λ (n : ℕ). 2 ^ n) (two m) ∙ pow-add 2 m m
+      where
+        two : (m : ℕ) → 2 * m ≡ m + m
+        two m = omega arith
+
+    thrice : 2 ^ (3 * m) ≡ 2 ^ m * (2 ^ m * 2 ^ m)
+    thrice = ap (λ (n : ℕ). 2 ^ n) (three m) ∙ pow-add 2 m (m + m) ∙ ap (λ (n : ℕ). 2 ^ m * n) (pow-add 2 m m)
+      where
+        three : (m : ℕ) → 3 * m ≡ m + (m + m)
+        three m = omega arith
+
+    scaled : pos (2 ^ (2 * m) * T) ≡ pos (2 ^ (2 * m) * 2 ^ (3 * m))
+    scaled =
+        ap (λ x. pos (2 ^ (2 * m)) *ℤ x) (sym (tally₂-sum m (λ X Y. readoutTally m f C X Y)))
+        ∙ sym (sum-mul m (pos (2 ^ (2 * m))) (λ X. sum m (λ Y. pos (readoutTally m f C X Y))))
+        ∙ sum-cong m (λ X. pos (2 ^ (2 * m)) *ℤ sum m (λ Y. pos (readoutTally m f C X Y))) (λ X. sum m (λ Y. sum m (λ z. square (innerSum m f C X Y z))))
+        (λ X hX. sym (sum-mul m (pos (2 ^ (2 * m))) (λ Y. pos (readoutTally m f C X Y)))
+        ∙ sum-cong m (λ Y. pos (2 ^ (2 * m)) *ℤ pos (readoutTally m f C X Y)) (λ Y. sum m (λ z. square (innerSum m f C X Y z))) (λ Y hY. sym (squares C m f X Y (omega arith) (omega arith))))
+        ∙ sum-ext m (λ X. sum m (λ Y. sum m (λ z. square (innerSum m f C X Y z)))) (λ X. sum m (λ z. sum m (λ Y. square (innerSum m f C X Y z)))) (λ X. sum-swap m m (λ Y z. square (innerSum m f C X Y z)))
+        ∙ sum-swap m m (λ X z. sum m (λ Y. square (innerSum m f C X Y z)))
+        ∙ sum-ext m (λ z. sum m (λ X. sum m (λ Y. square (innerSum m f C X Y z)))) (λ z. pos (2 ^ m * (2 ^ m * (1 * 2 ^ m * 2 ^ m)))) (slice-total C m f)
+        ∙ sum-const m (pos (2 ^ m * (2 ^ m * (1 * 2 ^ m * 2 ^ m))))
+        ∙ ap pos (powers (2 ^ m) ∙ ap₂ (λ (a b : ℕ). a * b) (sym twice) (sym thrice))
+
+-- ---- by the numbers of the slices
+
+tallyBelow-sum : (n : ℕ) (f : ℕ → ℕ) → sumBelow n (λ z. pos (f z)) ≡ pos (tallyBelow n f)
+unfolding sumBelow tallyBelow
+tallyBelow-sum zero f = refl
+tallyBelow-sum (suc n) f = ap (λ x. x +ℤ pos (f n)) (tallyBelow-sum n f) ∙ pos-+ℤ-pos (tallyBelow n f) (f n)
+
+-- The readout count is the sum over all strings of the colour.
+count-is-tally : (m : ℕ) (f : Polynomial) (C : Colour) (X Y : BitString) → readoutCount m f C X Y ≡ readoutTally m f C X Y
+unfolding readoutCount readoutAfter readoutTally
+count-is-tally m f C X Y =
+    ap natAbs (sym (tallyBelow-sum (2 ^ m) (λ n. share m f C X Y (highFirst m n))) ∙ sum-highFirst m (λ z. pos (share m f C X Y z)) ∙ tally-sum m (share m f C X Y))
+
+-- 2^(3m) · T is the sum of S(s)² over the 2^m strings of C beside X and Y.
+pub readout-squares :
+    (m : ℕ) (gs : List Gate) (C : Colour) (X Y : BitString) → areGates m gs ≡ true → length X ≤ m → length Y ≤ m →
+    pos (2 ^ (3 * m)) *ℤ pos (readoutCount m (polynomial gs) C X Y) ≡ sum m (λ w. square (signedSum m gs (join C w X Y)))
+readout-squares m gs C X Y v hX hY =
+    ap (λ (n : ℕ). pos (2 ^ (3 * m)) *ℤ pos n) (count-is-tally m (polynomial gs) C X Y) ∙ readoutTally-squares C m gs X Y v hX hY
+
+tally-ext : (m : ℕ) (f g : BitString → ℕ) → ((w : BitString) → f w ≡ g w) → tally m f ≡ tally m g
+unfolding tally
+tally-ext zero f g h = h []
+tally-ext (suc m) f g h = ap₂ _+_ (tally-ext m (λ w. f (false ∷ w)) (λ w. g (false ∷ w)) (λ w. h (false ∷ w))) (tally-ext m (λ w. f (true ∷ w)) (λ w. g (true ∷ w)) (λ w. h (true ∷ w)))
+
+-- The T of all 2^(2m) pairs add up to 2^(3m).
+pub readout-total : (m : ℕ) (f : Polynomial) (C : Colour) → tally m (λ X. tally m (λ Y. readoutCount m f C X Y)) ≡ 2 ^ (3 * m)
+readout-total m f C =
+    tally-ext m (λ X. tally m (λ Y. readoutCount m f C X Y)) (λ X. tally m (λ Y. readoutTally m f C X Y))
+    (λ X. tally-ext m (λ Y. readoutCount m f C X Y) (λ Y. readoutTally m f C X Y) (λ Y. count-is-tally m f C X Y))
+    ∙ readoutTally-total C m f

@@ -1,0 +1,125 @@
+-- After the turns up to position p the words have the string's positions below p added.
+use mathlib.Core.Path.{_≡_, sym, _∙_, ap}
+use mathlib.Core.Bool.{false}
+use mathlib.Core.List.{_∷_}
+use mathlib.Core.Logic.{⊎-elim}
+use Prim.Native.Nat.{_-_, _≤_}
+use native.Mathlib.Omega.{arith}
+use lib.ListN.{length, length-set}
+use borrow.Author.Tests.{leb-true, leb-false}
+use Rattle.gf2.specs.Strings.{BitString, bit}
+use Rattle.gf2.specs.Words.{highFirst}
+use Rattle.circuit.specs.Polynomial.{Polynomial}
+use Rattle.circuit.specs.Words.{wordsOf}
+use Rattle.slices.proofs.OutputWords.{addedBelow, position-bit, words-begun, words-next, words-passed, words-ended}
+use borrow.Author.Needs.{needs}
+use Rattle.slices.proofs.output.add_string.Statement.{statement}
+use Rattle.slices.proofs.output.add_string.Tie as tie
+
+abbrev Inv-loop : tie.InvT-loop
+Inv-loop colour m value next₀ p₀ next p =
+    (1 ≤ p) × (p ≤ 17) × (length next ≡ 289)
+    × ((f : Polynomial) → next₀ ≡ wordsOf f → next ≡ wordsOf (addedBelow p colour (highFirst m value) f))
+
+abbrev μ-loop : tie.MeasureT-loop
+μ-loop colour m value next₀ p₀ next p = 17 - p
+
+loop-holds : tie.Need-loop-holds Inv-loop μ-loop
+loop-holds c = (
+  omega arith,
+  omega arith,
+  search needs,
+  λ f e. e ∙ words-begun (c .args .colour) (highFirst (c .args .m) (c .args .value)) f,
+)
+
+sub-bit : tie.Need-sub-bit Inv-loop μ-loop
+sub-bit c = search needs
+
+bit-requires : tie.Need-bit-requires Inv-loop μ-loop
+bit-requires c κs = search needs
+
+word-of-requires : tie.Need-word-of-requires Inv-loop μ-loop
+word-of-requires c κs = search needs
+
+bit-of-requires : tie.Need-bit-of-requires Inv-loop μ-loop
+bit-of-requires c κs = search needs
+
+mul-toggle : tie.Need-mul-toggle Inv-loop μ-loop
+mul-toggle c = search needs
+
+array-read-toggle : tie.Need-array-read-toggle Inv-loop μ-loop
+array-read-toggle c = search needs
+
+toggle-requires : tie.Need-toggle-requires Inv-loop μ-loop
+toggle-requires c κs = search needs
+
+mul-next : tie.Need-mul-next Inv-loop μ-loop
+mul-next c = search needs
+
+array-write-next : tie.Need-array-write-next Inv-loop μ-loop
+array-write-next c = search needs
+
+add-p : tie.Need-add-p Inv-loop μ-loop
+add-p c = search needs
+
+loop-less : tie.Need-loop-less Inv-loop μ-loop
+loop-less c = search needs
+
+loop-again : tie.Need-loop-again Inv-loop μ-loop
+loop-again c =
+    let args = c .before .before .before .before .before .args in
+    let loop = c .before .before .before .before .loop in
+    let s : BitString = highFirst (args .m) (args .value) in
+    let digit : bit (loop .p) (false ∷ s) ≡ c .before .bit .result =
+    position-bit (args .m) (args .value) (loop .p) (omega arith) (leb-true _ _ (c .before .before .if1 .taken)) ∙ sym (c .before .bit .ensures) in
+    ⊎-elim
+    (λ w. (
+      omega arith,
+      omega arith,
+      ap length (w .4) ∙ length-set (loop .next) (w .1 .result) (w .3 .result) ∙ loop .inv .2,
+      λ f e.
+          w .4
+          ∙ words-next (args .colour) s f (loop .p) (loop .next) (w .1 .result) (w .2 .result) (w .3 .result) (omega arith)
+          (digit ∙ w .0 .taken) (w .1 .ensures .0) (w .2 .ensures) (w .3 .ensures) (loop .inv .3 f e),
+    ))
+    (λ w. (
+      omega arith,
+      omega arith,
+      ap length (w .1) ∙ loop .inv .2,
+      λ f e. w .1 ∙ loop .inv .3 f e ∙ words-passed (args .colour) s f (loop .p) (digit ∙ w .0 .left),
+    ))
+    (c .if2 .came)
+
+returns : tie.Need-returns Inv-loop μ-loop
+returns c =
+    let args = c .before .before .before .args in
+    let loop = c .before .before .loop in
+    λ f e. loop .inv .3 f e ∙ words-ended (args .colour) (args .m) (args .value) (loop .p) f (λ a l h. omega (arith, leb-false (loop .p) (args .m) (c .if1 .left)))
+
+returns-2 : tie.Need-returns-2 Inv-loop μ-loop
+returns-2 c =
+    let args = c .before .before .args in
+    let loop = c .before .loop in
+    λ f e. loop .inv .3 f e ∙ words-ended (args .colour) (args .m) (args .value) (loop .p) f (λ a l h. absurd (omega arith))
+
+pub add-string-spec : {M : Type 1} → statement M
+add-string-spec =
+    tie.close
+    (tie.spec
+    Inv-loop
+    μ-loop
+    loop-holds
+    sub-bit
+    bit-requires
+    word-of-requires
+    bit-of-requires
+    mul-toggle
+    array-read-toggle
+    toggle-requires
+    mul-next
+    array-write-next
+    add-p
+    loop-less
+    loop-again
+    returns
+    returns-2)

@@ -1,0 +1,80 @@
+-- After j turns the word has the first j bits.
+use mathlib.Core.Path.{_≡_, refl, _∙_, ap}
+use mathlib.Core.Bool.{Bool}
+use Prim.Native.Nat.{ℕ, _+_, _-_, _≤_}
+use native.Mathlib.Omega.{arith}
+use lib.ListN.{getD}
+use Rattle.gf2.specs.Words.{bitAt, wordOf}
+use Rattle.slices.proofs.TableWords.{gathered-more}
+use borrow.Author.Needs.{needs}
+use Rattle.slices.proofs.table.gathered.Statement.{statement}
+use Rattle.slices.proofs.table.gathered.Tie as tie
+
+abbrev Inv-loop : tie.InvT-loop
+Inv-loop words from k bits₀ j₀ bits j = (j ≤ 17) × (bits ≡ wordOf j (λ n. bitAt (getD words (from + n) 0) k))
+
+abbrev μ-loop : tie.MeasureT-loop
+μ-loop words from k bits₀ j₀ bits j = 17 - j
+
+loop-holds : tie.Need-loop-holds Inv-loop μ-loop
+unfolding wordOf
+loop-holds c = (omega arith, refl)
+
+add-bits : tie.Need-add-bits Inv-loop μ-loop
+add-bits c = search needs
+
+mul-bits : tie.Need-mul-bits Inv-loop μ-loop
+mul-bits c = search needs
+
+element-copy-out-bits : tie.Need-element-copy-out-bits Inv-loop μ-loop
+element-copy-out-bits c = search needs
+
+cast-bits : tie.Need-cast-bits Inv-loop μ-loop
+cast-bits c = search needs
+
+shr-bits : tie.Need-shr-bits Inv-loop μ-loop
+shr-bits c = search needs
+
+cast-bits-2 : tie.Need-cast-bits-2 Inv-loop μ-loop
+cast-bits-2 c = search needs
+
+shl-bits : tie.Need-shl-bits Inv-loop μ-loop
+shl-bits c = search needs
+
+add-j : tie.Need-add-j Inv-loop μ-loop
+add-j c = search needs
+
+loop-less : tie.Need-loop-less Inv-loop μ-loop
+loop-less c = search needs
+
+loop-again : tie.Need-loop-again Inv-loop μ-loop
+loop-again c =
+    let args = c .before .before .before .args in
+    let j = c .before .before .loop .j in
+    let g : ℕ → Bool = λ n. bitAt (getD (args .words .now) (args .from + n) 0) (args .k) in
+    (omega arith, gathered-more g j (args .k) (getD (args .words .now) (args .from + j) 0) (c .before .before .loop .bits) (omega arith) (c .before .before .loop .inv .1) refl)
+
+returns : tie.Need-returns Inv-loop μ-loop
+returns c =
+    let args = c .before .before .args in
+    let done : c .before .loop .j ≡ 17 = omega arith in
+    c .before .loop .inv .1 ∙ ap (λ (n : ℕ). wordOf n (λ j. bitAt (getD (args .words .now) (args .from + j) 0) (args .k))) done
+
+pub gathered-spec : {M : Type 1} → statement M
+gathered-spec =
+    tie.close
+    (tie.spec
+    Inv-loop
+    μ-loop
+    loop-holds
+    add-bits
+    mul-bits
+    element-copy-out-bits
+    cast-bits
+    shr-bits
+    cast-bits-2
+    shl-bits
+    add-j
+    loop-less
+    loop-again
+    returns)

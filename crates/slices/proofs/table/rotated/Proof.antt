@@ -1,0 +1,10 @@
+-- The word is halved and its lowest bit put last: the row of its bits.
+use Rattle.slices.proofs.TableWords.{rotated-row}
+use Rattle.slices.proofs.table.rotated.Statement.{statement}
+use Rattle.slices.proofs.table.rotated.Tie as tie
+
+returns : tie.Need-returns
+returns c = λ h. rotated-row (c .args .w) h
+
+pub rotated-spec : {M : Type 1} → statement M
+rotated-spec = tie.close (tie.spec returns)

@@ -1,0 +1,45 @@
+-- The elimination's outcome, its answer, and the sums with it.
+use mathlib.Core.Path.{_∙_, ap}
+use native.Mathlib.Omega.{arith}
+use Rattle.elimination.specs.Rows.{pivots}
+use Rattle.elimination.specs.State.{begun}
+use Rattle.slices.specs.Answers.{answerOf, answerTo}
+use Rattle.slices.specs.Walking.{plusSlice}
+use Rattle.slices.proofs.SlicesAdded.{outcome-is, answer-bounds}
+use borrow.Author.Needs.{needs}
+use Rattle.slices.proofs.total.with_one.Statement.{statement}
+use Rattle.slices.proofs.total.with_one.Tie as tie
+use Rattle.slices.proofs.total.with_one.Reads as reads
+use Rattle.slices.proofs.total.with_one.Lts as lts
+use Rattle.elimination.proofs.eliminate.Reads as eliminate-reads
+use Rattle.slices.proofs.slice.answer.Reads as answer-reads
+use Rattle.slices.proofs.total.with_slice.Reads as with-slice-reads
+
+-- src/total.rt:46:35
+eliminate-requires : tie.Need-eliminate-requires
+eliminate-requires c κs = search needs
+
+-- src/total.rt:46:25
+answer-requires : tie.Need-answer-requires
+answer-requires c κs = search needs
+
+-- src/total.rt:46:5
+with-slice-requires : tie.Need-with-slice-requires
+with-slice-requires c κs =
+    let a : _ = c .before .before .args in
+    let p : _ = c .before .before .pre in
+    let b : _ = answer-bounds (a .m) (c .before .eliminate .result) (c .answer .result) (p .0) (c .answer .ensures) in
+    (p .0, b .0, b .1, p .1, p .2)
+
+-- src/total.rt:42:1
+returns : tie.Need-returns
+unfolding answerTo
+returns c =
+    let a : _ = c .before .before .before .args in
+    let o : _ = c .before .before .eliminate in
+    c .with-slice .ensures
+    ∙ ap (λ x. plusSlice (a .m) x (a .sums))
+    (c .before .answer .ensures ∙ ap (answerOf (a .m)) (outcome-is (o .result) (pivots 16 (begun (a .rows))) (o .ensures .0) (o .ensures .1)))
+
+pub with-one-spec : {M : Type 1} → statement M
+with-one-spec = tie.close (tie.spec eliminate-requires answer-requires with-slice-requires returns)

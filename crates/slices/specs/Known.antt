@@ -1,0 +1,65 @@
+-- Known sums (document 01): those that are to be proved, as one table.
+use mathlib.Core.Bool.{Bool, true, false}
+use mathlib.Core.List.{List, [], _∷_}
+use Prim.Native.Nat.{ℕ}
+use lib.IntN.{ℤ, pos, negsuc}
+use Rattle.gf2.specs.Strings.{BitString}
+use Rattle.circuit.specs.declared.Colour.{Colour}
+use Rattle.circuit.specs.declared.Colour.the-variants.{Red, Blue}
+use Rattle.circuit.specs.declared.Gate.{Gate}
+use Rattle.circuit.specs.declared.Gate.the-variants.{Ccz, Cz, Cnot}
+use Rattle.circuit.specs.Sum.{signedSum}
+use Rattle.circuit.specs.Polynomial.{polynomial}
+use Rattle.slices.specs.Totals.{readoutCount}
+
+-- What is asked of a circuit: the signed sum at an output string, or the readout count of an unread colour beside two strings.
+pub data Asked : Type 0 where
+  sumAt : BitString → BitString → BitString → Asked
+  countBeside : Colour → BitString → BitString → Asked
+
+pub record Known : Type 0 where
+  pub m : ℕ
+  pub gates : List Gate
+  pub asked : Asked
+  pub number : ℤ
+
+unfoldable pub answered : ℕ → List Gate → Asked → ℤ
+answered m gs (sumAt r b g) = signedSum m gs (record { red = r; blue = b; green = g })
+answered m gs (countBeside C X Y) = pos (readoutCount m (polynomial gs) C X Y)
+
+abbrev o : Bool
+o = false
+
+abbrev i : Bool
+i = true
+
+-- The circuits of the table.
+unfoldable pub oneCcz : List Gate
+oneCcz = Ccz 1 1 1 ∷ []
+
+unfoldable pub oneCz : List Gate
+oneCz = Cz (record { colour = Red; position = 1 }) (record { colour = Blue; position = 1 }) ∷ []
+
+unfoldable pub cczThenCnot : List Gate
+cczThenCnot = Ccz 1 1 1 ∷ Cnot Red 2 1 ∷ []
+
+unfoldable pub cnotThenCcz : List Gate
+cnotThenCcz = Cnot Red 2 1 ∷ Ccz 1 1 1 ∷ []
+
+unfoldable pub knownTable : List Known
+knownTable =
+    record { m = 1; gates = []; asked = sumAt (o ∷ []) (o ∷ []) (o ∷ []); number = pos 8 }
+    ∷ record { m = 1; gates = []; asked = sumAt (i ∷ []) (o ∷ []) (o ∷ []); number = pos 0 }
+    ∷ record { m = 1; gates = oneCcz; asked = sumAt (o ∷ []) (o ∷ []) (o ∷ []); number = pos 6 }
+    ∷ record { m = 1; gates = oneCcz; asked = sumAt (i ∷ []) (i ∷ []) (o ∷ []); number = negsuc 1 }
+    ∷ record { m = 1; gates = oneCcz; asked = sumAt (i ∷ []) (i ∷ []) (i ∷ []); number = pos 2 }
+    ∷ record { m = 1; gates = oneCcz; asked = countBeside Red (o ∷ []) (o ∷ []); number = pos 5 }
+    ∷ record { m = 1; gates = oneCcz; asked = countBeside Red (o ∷ []) (i ∷ []); number = pos 1 }
+    ∷ record { m = 1; gates = oneCcz; asked = countBeside Red (i ∷ []) (o ∷ []); number = pos 1 }
+    ∷ record { m = 1; gates = oneCcz; asked = countBeside Red (i ∷ []) (i ∷ []); number = pos 1 }
+    ∷ record { m = 1; gates = Ccz 1 1 1 ∷ oneCcz; asked = sumAt (o ∷ []) (o ∷ []) (o ∷ []); number = pos 8 }
+    ∷ record { m = 1; gates = oneCz; asked = sumAt (i ∷ []) (i ∷ []) (o ∷ []); number = negsuc 3 }
+    ∷ record { m = 2; gates = cczThenCnot; asked = sumAt (o ∷ o ∷ []) (o ∷ o ∷ []) (o ∷ o ∷ []); number = pos 48 }
+    ∷ record { m = 2; gates = cczThenCnot; asked = sumAt (i ∷ i ∷ []) (o ∷ o ∷ []) (o ∷ o ∷ []); number = pos 16 }
+    ∷ record { m = 2; gates = cnotThenCcz; asked = sumAt (i ∷ o ∷ []) (o ∷ o ∷ []) (o ∷ o ∷ []); number = pos 16 }
+    ∷ []

@@ -1,0 +1,44 @@
+-- How an open sum holds its slices: the polynomial with the output string added, seen from the sliced colour, in packed rows.
+-- A state's bytes are fixed by these definitions; what the slices add up to is said in Totals.
+use mathlib.Core.Bool.{Bool, false, cond, _&&_}
+use mathlib.Core.List.{List, _∷_}
+use Prim.Native.Nat.{ℕ, _+_, _*_, _/_, _%_, _^_}
+use lib.Dec.{eqb, ltb}
+use Rattle.gf2.specs.Strings.{BitString, _⊕_, bit}
+use Rattle.gf2.specs.Words.{highFirst, wordOf, tabulate}
+use Rattle.circuit.specs.declared.Colour.{Colour}
+use Rattle.circuit.specs.declared.Colour.the-variants.{Red, Blue, Green}
+use Rattle.circuit.specs.Colours.{the, first, second, join}
+use Rattle.circuit.specs.Sum.{Basis}
+use Rattle.circuit.specs.Polynomial.{Polynomial}
+
+-- The basis string of three numbers, position 1 the highest digit of m.
+unfoldable pub strings : ℕ → ℕ → ℕ → ℕ → Basis
+strings m r b g = record { red = highFirst m r; blue = highFirst m b; green = highFirst m g }
+
+-- A string p of colour C added to the polynomial: its bit at position i acts as the term that holds i alone.
+unfoldable pub added : Colour → BitString → Polynomial → Polynomial
+added C p f h = f h ⊕ (eqb (first C h) 0 && (eqb (second C h) 0 && bit (the C h) (false ∷ p)))
+
+-- The output string added.
+unfoldable pub withOutput : Basis → Polynomial → Polynomial
+withOutput s f = added Red (s .red) (added Blue (s .blue) (added Green (s .green) f))
+
+-- A row of 17 bits: those of positions 1 to 16, and last that of index 0. So bit j of a row stands for index (j + 1) % 17.
+unfoldable pub rowOf : (ℕ → Bool) → ℕ
+rowOf a = wordOf 17 (λ j. a ((j + 1) % 17))
+
+-- Rows come in the same order: row i stands for index (i + 1) % 17. Row 17 is empty.
+unfoldable pub rowAt : (ℕ → ℕ → Bool) → ℕ → ℕ
+rowAt a i = cond (ltb i 17) (rowOf (a ((i + 1) % 17))) 0
+
+-- Three rows of 21 bits to a word, the lowest first.
+unfoldable pub packedWord : (ℕ → ℕ → Bool) → ℕ → ℕ
+packedWord a w = rowAt a (3 * w) + rowAt a (3 * w + 1) * 2 ^ 21 + rowAt a (3 * w + 2) * 2 ^ 42
+
+unfoldable pub packedRows : (ℕ → ℕ → Bool) → List ℕ
+packedRows a = tabulate 6 (packedWord a)
+
+-- The table of a sum sliced on C: for each index k of C the rows that it multiplies, six words each.
+unfoldable pub tableOf : Colour → Polynomial → List ℕ
+tableOf C f = tabulate 102 (λ n. packedWord (λ i j. f (join C (n / 6) i j)) (n % 6))

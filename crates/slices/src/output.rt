@@ -1,0 +1,58 @@
+// The output string as part of the polynomial.
+ghost use mathlib.Core.Path.{_≡_};
+ghost use Prim.Native.Nat.{_+_, _*_, _≤_, _<_};
+ghost use Rattle.gf2.specs.Words.{highFirst};
+ghost use Rattle.circuit.specs.Colours.{join};
+ghost use Rattle.circuit.specs.Polynomial.{Polynomial};
+ghost use Rattle.circuit.specs.Words.{wordsOf};
+ghost use Rattle.slices.specs.Packing.{added, withOutput, strings};
+use circuit::Colour;
+
+// The word of the term that holds position `p` of a colour alone.
+fn word_of(colour: Colour, p: usize) -> usize
+    requires { ⌜ p ≤ 16 ⌝ }
+    ensures { λ r. ⌜ (r ≡ 17 * join colour p 0 0 .red + join colour p 0 0 .blue) × (r < 289) ⌝ }
+{
+    match colour {
+        Colour::Red => 17 * p,
+        Colour::Blue => p,
+        Colour::Green => 0,
+    }
+}
+
+// The bit of that word.
+fn bit_of(colour: Colour, p: usize) -> usize
+    ensures { λ r. ⌜ r ≡ join colour p 0 0 .green ⌝ }
+{
+    match colour {
+        Colour::Red => 0,
+        Colour::Blue => 0,
+        Colour::Green => p,
+    }
+}
+
+// A string of one colour added: `value` has position 1 as the highest of its m digits.
+fn add_string(words: [u32; 289], colour: Colour, m: usize, value: u32) -> [u32; 289]
+    ensures { λ r. ⌜ ((f : Polynomial) → words ≡ wordsOf f → r ≡ wordsOf (added colour (highFirst m value) f)) ⌝ }
+{
+    let mut next = words;
+    let mut p = 1;
+    while p <= 16 && p <= m {
+        if gf2::bit(value, m - p) {
+            let w = word_of(colour, p);
+            let k = bit_of(colour, p);
+            next[w] = gf2::toggle(next[w], k);
+        }
+        p += 1;
+    }
+    next
+}
+
+// The output string added, by the numbers of its three strings.
+pub fn with_output(words: [u32; 289], m: usize, r: u32, b: u32, g: u32) -> [u32; 289]
+    ensures { λ s. ⌜ ((f : Polynomial) → words ≡ wordsOf f → s ≡ wordsOf (withOutput (strings m r b g) f)) ⌝ }
+{
+    let greens = add_string(words, Colour::Green, m, g);
+    let blues = add_string(greens, Colour::Blue, m, b);
+    add_string(blues, Colour::Red, m, r)
+}

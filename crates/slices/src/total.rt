@@ -1,0 +1,157 @@
+// The slices of a sum worked one after the other, and what they add up to.
+ghost use mathlib.Core.Bool.{true};
+ghost use mathlib.Core.List.{List};
+ghost use mathlib.Core.Path.{_≡_};
+ghost use Prim.Native.Nat.{ℕ, _+_, _^_, _≤_};
+ghost use lib.IntN.{natAbs};
+ghost use Rattle.gf2.specs.Words.{highFirst};
+ghost use Rattle.circuit.specs.declared.Colour.{Colour};
+ghost use Rattle.circuit.specs.declared.Gate.{Gate};
+ghost use Rattle.circuit.specs.Colours.{first, second};
+ghost use Rattle.circuit.specs.Sum.{areGates};
+ghost use Rattle.circuit.specs.Polynomial.{polynomial};
+ghost use Rattle.slices.specs.Packing.{tableOf, withOutput, strings};
+ghost use Rattle.slices.specs.Totals.{amplitudeAfter, readoutAfter};
+ghost use Rattle.slices.specs.Answers.{Answers, answerTo};
+ghost use Rattle.slices.specs.Walking.{plusSlice, Walked, inRange, moderate};
+use crate::slice::Slice;
+use crate::slice::answer;
+use crate::slice::share;
+use crate::walk::changes;
+use crate::walk::next_rows;
+use crate::walk::rows_at;
+
+// What some slices add up to: their inner sums, and their shares of a readout count.
+pub struct Sums {
+    pub inner: i64,
+    pub shares: u64,
+}
+
+// One slice more.
+fn with_slice(sums: Sums, m: u32, slice: Slice) -> Sums
+    requires { ⌜ (m ≤ 16) × (slice .rank ≤ m) × (natAbs (slice .inner) ≤ 2 ^ 32) × (natAbs (sums .inner) ≤ 2 ^ 60) × (sums .shares ≤ 2 ^ 60) ⌝ }
+    ensures { λ r. ⌜ r ≡ plusSlice m slice sums ⌝ }
+{
+    Sums {
+        inner: sums.inner + slice.inner,
+        shares: sums.shares + share(m, slice),
+    }
+}
+
+// One slice more, by its rows.
+fn with_one(sums: Sums, m: u32, rows: [u64; 6]) -> Sums
+    requires { ⌜ (m ≤ 16) × (natAbs (sums .inner) ≤ 2 ^ 60) × (sums .shares ≤ 2 ^ 60) ⌝ }
+    ensures { λ r. ⌜ r ≡ plusSlice m (answerTo m rows) sums ⌝ }
+{
+    with_slice(sums, m, answer(m, elimination::eliminate(rows)))
+}
+
+// Two slices more: their eliminations do not wait for each other.
+fn with_two(sums: Sums, m: u32, rows: [u64; 6], others: [u64; 6]) -> Sums
+    requires { ⌜ (m ≤ 16) × (natAbs (sums .inner) ≤ 2 ^ 59) × (sums .shares ≤ 2 ^ 59) ⌝ }
+    ensures { λ r. ⌜ r ≡ plusSlice m (answerTo m others) (plusSlice m (answerTo m rows) sums) ⌝ }
+{
+    let both = elimination::eliminate_both(rows, others);
+    let a = both.a;
+    let b = both.b;
+    let first = with_slice(sums, m, answer(m, a));
+    with_slice(first, m, answer(m, b))
+}
+
+// The slices from `from` on, two at a time as long as there are two.
+fn walk(table: &[u64; 102], m: usize, from: usize, count: usize) -> Sums
+    requires { ⌜ (m ≤ 16) × (from + count ≤ 2 ^ m) ⌝ }
+    ensures { λ r. ⌜ Walked (now (table .entry)) m from count r ⌝ }
+{
+    let steps = changes(table, m);
+    let size = m as u32;
+    let end = from + count;
+    let mut sums = Sums {
+        inner: 0,
+        shares: 0,
+    };
+    let mut rows = rows_at(table, m, from);
+    let mut n = from;
+    while n + 1 < end {
+        let others = next_rows(rows, &steps, n + 1);
+        sums = with_two(sums, size, rows, others);
+        n += 2;
+        let next = next_rows(others, &steps, n);
+        rows = next;
+    }
+    if n < end {
+        sums = with_one(sums, size, rows);
+    }
+    sums
+}
+
+// Are there positions and slices of these numbers?
+fn in_range(m: usize, from: usize, count: usize) -> bool
+    ensures { λ r. ⌜ r ≡ inRange m from count ⌝ }
+{
+    if 16 < m {
+        return false;
+    }
+    let all = 1usize << m;
+    if all < from {
+        return false;
+    }
+    count <= all - from
+}
+
+// Is the total far from the ends of its type? A sum's total is at most 2^48.
+fn is_moderate(total: i64) -> bool
+    ensures { λ r. ⌜ r ≡ moderate total ⌝ }
+{
+    if total < -1152921504606846976 {
+        return false;
+    }
+    total <= 1152921504606846976
+}
+
+// One slice by its number.
+pub fn slice(table: [u64; 102], m: usize, n: usize) -> Slice
+    ensures { λ x. ⌜ ((gs : List Gate) (C : Colour) (r b g : ℕ) → areGates m gs ≡ true → m ≤ 16 →
+        table ≡ tableOf C (withOutput (strings m r b g) (polynomial gs)) →
+        Answers m (polynomial gs) C (strings m r b g) (highFirst m n) x) ⌝ }
+{
+    if 16 < m {
+        return Slice { inner: 0, rank: 0 };
+    }
+    let rows = rows_at(&table, m, n);
+    answer(m as u32, elimination::eliminate(rows))
+}
+
+// The total of an amplitude after `count` more slices, from slice `from` on.
+pub fn amplitude(table: [u64; 102], m: usize, from: usize, count: usize, total: i64) -> i64
+    ensures { λ x. ⌜ ((gs : List Gate) (C : Colour) (r b g : ℕ) → areGates m gs ≡ true → 1 ≤ m → m ≤ 16 →
+        table ≡ tableOf C (withOutput (strings m r b g) (polynomial gs)) → from + count ≤ 2 ^ m →
+        total ≡ amplitudeAfter m (polynomial gs) C (strings m r b g) from →
+        x ≡ amplitudeAfter m (polynomial gs) C (strings m r b g) (from + count)) ⌝ }
+{
+    if !in_range(m, from, count) {
+        return total;
+    }
+    if !is_moderate(total) {
+        return total;
+    }
+    let sums = walk(&table, m, from, count);
+    total + sums.inner
+}
+
+// The readout count after `count` more slices, from slice `from` on.
+pub fn readout(table: [u64; 102], m: usize, from: usize, count: usize, total: u64) -> u64
+    ensures { λ x. ⌜ ((gs : List Gate) (C : Colour) (r b g : ℕ) → areGates m gs ≡ true → 1 ≤ m → m ≤ 16 →
+        table ≡ tableOf C (withOutput (strings m r b g) (polynomial gs)) → from + count ≤ 2 ^ m →
+        total ≡ readoutAfter m (polynomial gs) C (first C (strings m r b g)) (second C (strings m r b g)) from →
+        x ≡ readoutAfter m (polynomial gs) C (first C (strings m r b g)) (second C (strings m r b g)) (from + count)) ⌝ }
+{
+    if !in_range(m, from, count) {
+        return total;
+    }
+    if 1152921504606846976 < total {
+        return total;
+    }
+    let sums = walk(&table, m, from, count);
+    total + sums.shares
+}

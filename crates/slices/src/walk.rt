@@ -1,0 +1,71 @@
+// From slice to slice: a slice's packed rows, and those of the slice after it.
+ghost use mathlib.Core.Path.{_≡_};
+ghost use Prim.Native.Nat.{ℕ, _+_, _*_, _≤_, _<_};
+ghost use lib.ListN.{getD};
+ghost use Rattle.gf2.specs.Words.{highFirst};
+ghost use Rattle.circuit.specs.declared.Colour.{Colour};
+ghost use Rattle.circuit.specs.Polynomial.{Polynomial};
+ghost use Rattle.slices.specs.Slices.{coefficient};
+ghost use Rattle.slices.specs.Packing.{packedWord, packedRows, tableOf};
+ghost use Rattle.slices.specs.Walking.{lastPositions, rowsPlus, rowsNext};
+
+// The rows with those at index `k` of a table added.
+fn moved(rows: [u64; 6], table: &[u64; 102], k: usize) -> [u64; 6]
+    requires { ⌜ k ≤ 16 ⌝ }
+    ensures { λ r. ⌜ r ≡ rowsPlus rows (now (table .entry)) k ⌝ }
+{
+    let at = 6 * k;
+    [
+        rows[0] ^ table[at],
+        rows[1] ^ table[at + 1],
+        rows[2] ^ table[at + 2],
+        rows[3] ^ table[at + 3],
+        rows[4] ^ table[at + 4],
+        rows[5] ^ table[at + 5],
+    ]
+}
+
+// The rows of slice `n`: those of the constant, and of each position whose digit is 1.
+pub(crate) fn rows_at(table: &[u64; 102], m: usize, n: usize) -> [u64; 6]
+    requires { ⌜ m ≤ 16 ⌝ }
+    ensures { λ r. ⌜ ((f : Polynomial) (C : Colour) → now (table .entry) ≡ tableOf C f → r ≡ packedRows (coefficient m f C (highFirst m n))) ⌝ }
+{
+    let mut rows = moved([0u64; 6], table, 0);
+    let mut p = 1;
+    while p <= m {
+        if n >> (m - p) & 1 == 1 {
+            let next = moved(rows, table, p);
+            rows = next;
+        }
+        p += 1;
+    }
+    rows
+}
+
+// What a step to the next slice adds: at `t`, the rows of the t + 1 last positions.
+pub(crate) fn changes(table: &[u64; 102], m: usize) -> [u64; 102]
+    requires { ⌜ m ≤ 16 ⌝ }
+    ensures { λ r. ⌜ ((f : Polynomial) (C : Colour) → now (table .entry) ≡ tableOf C f → (t w : ℕ) → t < m → w < 6 →
+        getD r (6 * t + w) 0 ≡ packedWord (lastPositions m f C t) w) ⌝ }
+{
+    let mut sums = [0u64; 102];
+    let mut n = 0;
+    while n < 6 * m {
+        let own = table[6 * (m - n / 6) + n % 6];
+        if n < 6 {
+            sums[n] = own;
+        } else {
+            sums[n] = own ^ sums[n - 6];
+        }
+        n += 1;
+    }
+    sums
+}
+
+// The rows of slice `n` from those of the slice before it.
+pub(crate) fn next_rows(rows: [u64; 6], steps: &[u64; 102], n: usize) -> [u64; 6]
+    requires { ⌜ (0 < n) × (n ≤ 65536) ⌝ }
+    ensures { λ r. ⌜ r ≡ rowsNext rows (now (steps .entry)) n ⌝ }
+{
+    moved(rows, steps, usize::trailing_zeros(n) as usize)
+}
