@@ -7,6 +7,7 @@ pub mod OutputString
 pub mod Amplitude
 pub mod Known
 pub mod TableWords
+pub mod BitTests
 pub mod Successor
 pub mod SliceWords
 pub mod OutcomeTests

@@ -1,20 +1,20 @@
 -- The answer of a slice: its inner sum with its sign, and its rank. Both have the same size, 2^(2m − rank), so the columns cleared are the rank.
 use mathlib.Core.Path.{_≡_, refl, sym, _∙_, ap, ap₂}
-use mathlib.Core.Logic.{_⊎_, inl, inr}
-use mathlib.Core.Bool.{Bool, true, false, true≢false, not, cond, _||_}
+use mathlib.Core.Logic.{inl, inr}
+use mathlib.Core.Bool.{Bool, true, false, true≢false, cond, _||_}
 use mathlib.Core.List.{List}
 use Prim.Native.Nat.{ℕ, zero, suc, _+_, _-_, _*_, _%_, _^_, _≤_, _<_}
 use native.Mathlib.Nat.{mod-lt}
 use native.Mathlib.Omega.{arith}
 use lib.Count.{ones, ones-le}
 use lib.Dec.{ltb}
-use lib.IntN.{ℤ, pos, natAbs, negℤ, _*ℤ_, pos-*ℤ-pos, *ℤ-zero, pos-ne-negsuc}
+use lib.IntN.{ℤ, pos, natAbs, _*ℤ_, pos-*ℤ-pos, *ℤ-zero, pos-ne-negsuc}
 use lib.ListN.{length}
 use lib.Pow.{pow-pos, pow-add}
 use borrow.Author.Tests.{le-ltb}
-use Rattle.gf2.specs.Strings.{BitString, _⊕_, dot, isZero}
+use Rattle.gf2.specs.Strings.{BitString, dot}
 use Rattle.gf2.specs.Sums.{sgn}
-use Rattle.gf2.specs.Words.{bitAt, highFirst, lowFirst}
+use Rattle.gf2.specs.Words.{bitAt, highFirst}
 use Rattle.gf2.proofs.Integers.{one-*ℤ, negone-*ℤ, *ℤ-left-comm}
 use Rattle.gf2.proofs.HighFirst.{length-highFirst}
 use Rattle.circuit.specs.declared.Colour.{Colour}
@@ -26,7 +26,7 @@ use Rattle.circuit.specs.Polynomial.{Polynomial, polynomial}
 use Rattle.elimination.specs.declared.Outcome.{Outcome}
 use Rattle.elimination.specs.Rows.{pivots}
 use Rattle.elimination.specs.State.{begun, outcomeOf}
-use Rattle.elimination.proofs.Solving.{Size, vanished, signedPower, sizeValue}
+use Rattle.elimination.proofs.Solving.{vanished, signedPower, sizeValue}
 use Rattle.elimination.proofs.SignedSum.{sizeOf}
 use Rattle.slices.specs.declared.slice.Slice.{Slice}
 use Rattle.slices.specs.Slices.{coefficient, gamma, innerSum}

@@ -4,13 +4,13 @@ use mathlib.Core.Bool.{Bool, true, false, _&&_}
 use mathlib.Core.List.{List, [], _∷_, map}
 use Prim.Native.Nat.{ℕ, zero, suc, _+_, _-_, _%_, _^_, _≤_, _<_}
 use native.Mathlib.Omega.{arith}
-use lib.Dec.{eqb, eqb·suc-zero}
+use lib.Dec.{eqb·suc-zero}
 use lib.IntN.{ℤ, pos, _*ℤ_}
 use lib.ListN.{length, getD, take, length-map, List·getD-map}
 use lib.Seq.{ext-getD, getD-take, length-take-le}
 use Rattle.gf2.specs.Strings.{BitString, _⊕_, _⊞_, dot, bit}
-use Rattle.gf2.specs.Sums.{parity, sgn}
-use Rattle.gf2.specs.Words.{bitAt, lowFirst, wordOf, tabulate}
+use Rattle.gf2.specs.Sums.{sgn}
+use Rattle.gf2.specs.Words.{bitAt, lowFirst, wordOf}
 use Rattle.gf2.proofs.Bits.{⊕-false, and-false, sgn-⊕}
 use Rattle.gf2.proofs.Integers.{ring}
 use Rattle.gf2.proofs.Strings.{bit-⊞}
@@ -24,7 +24,7 @@ use Rattle.circuit.specs.declared.Gate.{Gate}
 use Rattle.circuit.specs.Colours.{the, first, second, join}
 use Rattle.circuit.specs.Sum.{Basis, at, areGates}
 use Rattle.circuit.specs.Polynomial.{Polynomial, polynomial}
-use Rattle.circuit.proofs.PolynomialTerms.{IsTerm, HasTerms, polynomial-terms}
+use Rattle.circuit.proofs.PolynomialTerms.{IsTerm, polynomial-terms}
 use Rattle.elimination.specs.Rows.{rowsOf, pivots}
 use Rattle.elimination.specs.State.{begun, outcomeOf}
 use Rattle.elimination.proofs.Systems.{Equation, systemSum}

@@ -2,12 +2,12 @@
 use mathlib.Core.Path.{_≡_, refl, sym, _∙_, ap, ap₂}
 use mathlib.Core.Bool.{true}
 use mathlib.Core.List.{List}
-use Prim.Native.Nat.{ℕ, zero, suc, _+_, _*_, _^_, _≤_, _<_}
+use Prim.Native.Nat.{ℕ, zero, suc, _+_, _*_, _^_, _≤_}
 use native.Mathlib.Nat.{add-zero, add-suc, add-assoc, le-trans, mul-le-mul-right}
 use native.Mathlib.Omega.{arith}
 use lib.IntN.{ℤ, natAbs, _+ℤ_, _*ℤ_}
 use lib.Pow.{pow-mono, pow-add}
-use Rattle.gf2.specs.Sums.{sumBelow, sgn}
+use Rattle.gf2.specs.Sums.{sgn}
 use Rattle.gf2.specs.Strings.{BitString, dot}
 use Rattle.gf2.specs.Words.{highFirst}
 use Rattle.gf2.proofs.Below.{sumBelow-cong, sumBelow-add}

@@ -1,23 +1,22 @@
 -- The digits of the number after n: those up to the lowest zero of n are turned over, as many as n + 1 has zeros at its end and one more.
 use mathlib.Core.Path.{_≡_, refl, sym, _∙_, ap, ap₂}
 use mathlib.Core.Bool.{Bool, true, false, _&&_}
-use Prim.Native.Nat.{ℕ, zero, suc, _+_, _-_, _*_, _/_, _%_, _^_, _≤_, _<_}
+use Prim.Native.Nat.{ℕ, zero, suc, _+_, _-_, _/_, _%_, _^_, _≤_, _<_}
 use native.Mathlib.Nat.{div-one, div-div-eq-div-mul, pow-succ'}
 use native.Mathlib.Omega.{arith}
-use lib.Bits.{bitAnd, and-mask}
+use lib.Bits.{bitAnd}
 use lib.Count.{trailingZeros, under}
 use lib.Dec.{leb, leb·zero, leb·suc-zero, leb·suc-suc}
-use lib.ListN.{length}
-use borrow.Author.Tests.{leb-true, leb-false, le-leb, eq-eqb, ne-eqb}
+use borrow.Author.Tests.{leb-true, leb-false, le-leb}
 use Rattle.gf2.specs.Strings.{_⊕_, bit}
 use Rattle.gf2.specs.Sums.{parity}
 use Rattle.gf2.specs.Words.{bitOf, odd, bitAt, highFirst}
-use Rattle.gf2.proofs.Bits.{⊕-false, ⊕-comm, false-⊕}
+use Rattle.gf2.proofs.Bits.{⊕-false, ⊕-comm}
 use Rattle.gf2.proofs.Digits.{odd-add}
-use Rattle.gf2.proofs.WordBits.{odd-tested}
 use Rattle.gf2.proofs.Parities.{parity-cong, parity-ext}
 use Rattle.circuit.specs.Sum.{at}
 use Rattle.slices.proofs.Slicing.{parity-head}
+use Rattle.slices.proofs.BitTests.{bit-set, bit-clear}
 
 bitAt-half : (w k : ℕ) → bitAt w (suc k) ≡ bitAt (w / 2) k
 unfolding bitAt
@@ -72,16 +71,12 @@ unfolding at bit
 at-highFirst m n zero h k = absurd (omega arith)
 at-highFirst m n (suc p) h k = bit-highFirst m n p k
 
--- That digit as the code tests it.
-pub digit-set : (m n p : ℕ) → 1 ≤ p → p ≤ m → bitAnd (n / 2 ^ (m - p)) 1 ≡ 1 → at p (highFirst m n) ≡ true
-unfolding bitAt
-digit-set m n p h k e =
-    at-highFirst m n p h k ∙ sym (odd-tested (n / 2 ^ (m - p))) ∙ eq-eqb (n / 2 ^ (m - p) % 2) 1 (sym (and-mask (n / 2 ^ (m - p)) 1) ∙ e)
+-- That digit, d, as the code tests it.
+pub digit-set : (m n p d : ℕ) → d ≡ m - p → 1 ≤ p → p ≤ m → bitAnd (n / 2 ^ d) 1 ≡ 1 → at p (highFirst m n) ≡ true
+digit-set m n p d e h k t = at-highFirst m n p h k ∙ ap (bitAt n) (sym e) ∙ bit-set n d t
 
-pub digit-clear : (m n p : ℕ) → 1 ≤ p → p ≤ m → (bitAnd (n / 2 ^ (m - p)) 1 ≡ 1 → ⊥) → at p (highFirst m n) ≡ false
-unfolding bitAt
-digit-clear m n p h k e =
-    at-highFirst m n p h k ∙ sym (odd-tested (n / 2 ^ (m - p))) ∙ ne-eqb (n / 2 ^ (m - p) % 2) 1 (λ q. e (and-mask (n / 2 ^ (m - p)) 1 ∙ q))
+pub digit-clear : (m n p d : ℕ) → d ≡ m - p → 1 ≤ p → p ≤ m → (bitAnd (n / 2 ^ d) 1 ≡ 1 → ⊥) → at p (highFirst m n) ≡ false
+digit-clear m n p d e h k t = at-highFirst m n p h k ∙ ap (bitAt n) (sym e) ∙ bit-clear n d t
 
 -- ---- sums over positions, from the last
 

@@ -1,4 +1,4 @@
--- What a slice answers, and how its elimination says it.
+-- What a slice answers. The first record is what the public calls promise; the rest is how the code comes to it.
 use mathlib.Core.Path.{_≡_}
 use mathlib.Core.Bool.{Bool, cond, not, _||_}
 use mathlib.Core.List.{List}
@@ -40,6 +40,7 @@ vanishing o = bitAt (o .columns) 16 || not (isZero (lowFirst 16 (o .last)))
 abbrev pub nought : Slice
 nought = record { inner = pos 0; rank = 0 }
 
+-- A slice of m positions clears at most m columns; an outcome with more is that of no slice.
 unfoldable pub answerOf : ℕ → Outcome → Slice
 answerOf m o =
     cond (vanishing o || ltb m (cleared o)) nought

@@ -1,4 +1,4 @@
--- From slice to slice: what a step adds to the rows, and what some slices add up to.
+-- From slice to slice: what a step adds to the rows, and what some slices add up to. Only the code's own functions promise these.
 use mathlib.Core.Path.{_≡_}
 use mathlib.Core.Bool.{Bool, _&&_}
 use mathlib.Core.List.{List}
@@ -46,5 +46,6 @@ pub record Walked (table : List ℕ) (m from count : ℕ) (r : Sums) : Type 0 wh
 unfoldable pub inRange : ℕ → ℕ → ℕ → Bool
 inRange m from count = leb m 16 && leb (from + count) (2 ^ m)
 
+-- Totals of real sums are at most 2^48.
 unfoldable pub moderate : ℤ → Bool
 moderate t = leb (natAbs t) (2 ^ 60)

@@ -22,9 +22,9 @@ use crate::walk::next_rows;
 use crate::walk::rows_at;
 
 // What some slices add up to: their inner sums, and their shares of a readout count.
-pub struct Sums {
-    pub inner: i64,
-    pub shares: u64,
+struct Sums {
+    inner: i64,
+    shares: u64,
 }
 
 // One slice more.

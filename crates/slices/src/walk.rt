@@ -1,6 +1,6 @@
 // From slice to slice: a slice's packed rows, and those of the slice after it.
 ghost use mathlib.Core.Path.{_≡_};
-ghost use Prim.Native.Nat.{ℕ, _+_, _*_, _≤_, _<_};
+ghost use Prim.Native.Nat.{ℕ, _+_, _-_, _*_, _≤_, _<_};
 ghost use lib.ListN.{getD};
 ghost use Rattle.gf2.specs.Words.{highFirst};
 ghost use Rattle.circuit.specs.declared.Colour.{Colour};
@@ -25,6 +25,14 @@ fn moved(rows: [u64; 6], table: &[u64; 102], k: usize) -> [u64; 6]
     ]
 }
 
+// The digit of a slice's number at position `p`: position 1 is the highest.
+fn digit_at(m: usize, p: usize) -> usize
+    requires { ⌜ (1 ≤ p) × (p ≤ m) ⌝ }
+    ensures { λ r. ⌜ r ≡ m - p ⌝ }
+{
+    m - p
+}
+
 // The rows of slice `n`: those of the constant, and of each position whose digit is 1.
 pub(crate) fn rows_at(table: &[u64; 102], m: usize, n: usize) -> [u64; 6]
     requires { ⌜ m ≤ 16 ⌝ }
@@ -33,7 +41,7 @@ pub(crate) fn rows_at(table: &[u64; 102], m: usize, n: usize) -> [u64; 6]
     let mut rows = moved([0u64; 6], table, 0);
     let mut p = 1;
     while p <= m {
-        if n >> (m - p) & 1 == 1 {
+        if n >> digit_at(m, p) & 1 == 1 {
             let next = moved(rows, table, p);
             rows = next;
         }

@@ -1,5 +1,5 @@
 -- The tests in the code's order are those of the definition.
-use mathlib.Core.Path.{sym, _∙_, ap}
+use mathlib.Core.Path.{sym, _∙_}
 use native.Mathlib.Omega.{arith}
 use mir.Facts.{toZ-ofZ}
 use mir.Syntax.{w64}
@@ -7,38 +7,27 @@ use Rattle.slices.proofs.OutcomeTests.{cleared-tested, answer-vanished,
 use borrow.Author.Needs.{needs}
 use Rattle.slices.proofs.slice.answer.Statement.{statement}
 use Rattle.slices.proofs.slice.answer.Tie as tie
-use Rattle.slices.proofs.slice.answer.Reads as reads
-use Rattle.slices.proofs.slice.answer.Lts as lts
-use Rattle.slices.proofs.slice.signed_power.Reads as signed-power-reads
-use Rattle.slices.proofs.slice.vanishes.Reads as vanishes-reads
 
--- src/slice.rt:40:8
 vanishes-requires : tie.Need-vanishes-requires
 vanishes-requires c κs = search needs
 
--- src/slice.rt:41:9
 returns : tie.Need-returns
 returns c = answer-vanished (c .before .before .args .m) (c .before .before .args .outcome) (sym (c .before .vanishes .ensures) ∙ c .if1 .taken)
 
--- src/slice.rt:45:9
 returns-2 : tie.Need-returns-2
 returns-2 c =
     let a : _ = c .before .before .before .before .args in
     answer-crowded (a .m) (a .outcome) _ (cleared-tested (a .outcome)) (c .if2 .taken)
 
--- src/slice.rt:48:43
 mul-signed-power : tie.Need-mul-signed-power
 mul-signed-power c = search needs
 
--- src/slice.rt:48:43
 sub-signed-power : tie.Need-sub-signed-power
 sub-signed-power c = omega arith
 
--- src/slice.rt:48:16
 signed-power-requires : tie.Need-signed-power-requires
 signed-power-requires c κs = omega arith
 
--- src/slice.rt:36:1
 returns-3 : tie.Need-returns-3
 returns-3 c =
     let a : _ = c .before .before .before .before .before .args in

@@ -1,44 +1,36 @@
 -- 2^(2m − 2 rank) is at most 2^32, so the shift loses nothing.
 use mathlib.Core.Path.{sym, _∙_, ap}
 use mathlib.Core.Bool.{cond}
-use Prim.Native.Nat.{ℕ, _-_, _*_, _^_}
+use Prim.Native.Nat.{_-_, _*_, _^_}
 use native.Mathlib.Omega.{arith}
 use Rattle.slices.specs.Answers.{shareOf}
-use Rattle.slices.proofs.OutcomeTests.{one-shifted, nought-tested, nought-refused}
+use Rattle.slices.proofs.BitTests.{one-shifted}
+use Rattle.slices.proofs.OutcomeTests.{nought-tested, nought-refused}
 use borrow.Author.Needs.{needs}
 use Rattle.slices.proofs.slice.share.Statement.{statement}
 use Rattle.slices.proofs.slice.share.Tie as tie
-use Rattle.slices.proofs.slice.share.Reads as reads
-use Rattle.slices.proofs.slice.share.Lts as lts
 
--- src/slice.rt:57:9
 returns : tie.Need-returns
 unfolding shareOf
 returns c =
     let a : _ = c .before .before .args in
     sym (ap (λ b. cond b 0 (2 ^ (2 * a .m - 2 * a .slice .rank))) (nought-tested (a .slice .inner) (search needs) (c .if1 .taken)))
 
--- src/slice.rt:59:11
 mul-result : tie.Need-mul-result
 mul-result c = search needs
 
--- src/slice.rt:59:19
 mul-result-2 : tie.Need-mul-result-2
 mul-result-2 c = search needs
 
--- src/slice.rt:59:11
 sub-result : tie.Need-sub-result
 sub-result c = search needs
 
--- src/slice.rt:59:11
 cast-result : tie.Need-cast-result
 cast-result c = search needs
 
--- src/slice.rt:59:5
 shl-result : tie.Need-shl-result
 shl-result c = search needs
 
--- src/slice.rt:51:1
 returns-2 : tie.Need-returns-2
 unfolding shareOf
 returns-2 c =

@@ -5,32 +5,26 @@ use lib.IntN.{pos, _*ℤ_}
 use Prim.Native.Nat.{_^_}
 use mir.Facts.{toZ-ofZ}
 use Rattle.gf2.specs.Sums.{sgn}
-use Rattle.slices.proofs.OutcomeTests.{bit-set, bit-clear, power-cast, minus-fits, minus-power, plus-power}
+use Rattle.slices.proofs.BitTests.{bit-set, bit-clear}
+use Rattle.slices.proofs.OutcomeTests.{power-cast, minus-fits, minus-power, plus-power}
 use borrow.Author.Needs.{needs}
 use Rattle.slices.proofs.slice.signed_power.Statement.{statement}
 use Rattle.slices.proofs.slice.signed_power.Tie as tie
-use Rattle.slices.proofs.slice.signed_power.Reads as reads
-use Rattle.slices.proofs.slice.signed_power.Lts as lts
 
--- src/slice.rt:31:17
 shl-size : tie.Need-shl-size
 shl-size c = search needs
 
--- src/slice.rt:31:16
 cast-size : tie.Need-cast-size
 cast-size c = power-cast (c .args .e) (omega arith)
 
--- src/slice.rt:32:30
 sub-result : tie.Need-sub-result
 sub-result c = minus-fits (c .before .args .e) (omega arith)
 
--- src/slice.rt:27:1
 returns : tie.Need-returns
 returns c =
     let a : _ = c .before .args in
     toZ-ofZ (sub-result c) ∙ minus-power (a .e) (omega arith) ∙ sym (ap (λ b. sgn b *ℤ pos (2 ^ a .e)) (bit-set (a .last) 16 (c .if1 .taken)))
 
--- src/slice.rt:27:1
 returns-2 : tie.Need-returns-2
 returns-2 c =
     let a : _ = c .before .args in

@@ -4,19 +4,14 @@ use mathlib.Core.Bool.{not, _||_}
 use Rattle.gf2.specs.Strings.{isZero}
 use Rattle.gf2.specs.Words.{lowFirst}
 use Rattle.slices.specs.Answers.{vanishing}
-use Rattle.slices.proofs.OutcomeTests.{bit-set, bit-clear, low-tested}
-use borrow.Author.Needs.{needs}
+use Rattle.slices.proofs.BitTests.{bit-set, bit-clear, low-tested}
 use Rattle.slices.proofs.slice.vanishes.Statement.{statement}
 use Rattle.slices.proofs.slice.vanishes.Tie as tie
-use Rattle.slices.proofs.slice.vanishes.Reads as reads
-use Rattle.slices.proofs.slice.vanishes.Lts as lts
 
--- src/slice.rt:21:9
 returns : tie.Need-returns
 unfolding vanishing
 returns c = let o : _ = c .before .before .args .outcome in sym (ap (λ b. b || not (isZero (lowFirst 16 (o .last)))) (bit-set (o .columns) 16 (c .if1 .taken)))
 
--- src/slice.rt:17:1
 returns-2 : tie.Need-returns-2
 unfolding vanishing
 returns-2 c =

@@ -17,27 +17,18 @@ use Rattle.slices.proofs.SliceTotals.{amplitude-more, amplitude-moderat
 use borrow.Author.Needs.{needs}
 use Rattle.slices.proofs.total.amplitude.Statement.{statement}
 use Rattle.slices.proofs.total.amplitude.Tie as tie
-use Rattle.slices.proofs.total.amplitude.Reads as reads
-use Rattle.slices.proofs.total.amplitude.Lts as lts
-use Rattle.slices.proofs.total.in_range.Reads as in-range-reads
-use Rattle.slices.proofs.total.is_moderate.Reads as is-moderate-reads
-use Rattle.slices.proofs.total.walk.Reads as walk-reads
 
--- src/total.rt:132:9
 in-range-requires : tie.Need-in-range-requires
 in-range-requires c κs = search needs
 
--- src/total.rt:133:9
 returns : tie.Need-returns
 returns c gs C r b g v l h e k t =
     let a : _ = c .before .before .args in
     absurd (true≢false (sym (c .before .in-range .ensures ∙ range-of (a .m) (a .from) (a .count) h k) ∙ not-true _ (c .if1 .taken)))
 
--- src/total.rt:135:9
 is-moderate-requires : tie.Need-is-moderate-requires
 is-moderate-requires c κs = search needs
 
--- src/total.rt:136:9
 returns-2 : tie.Need-returns-2
 returns-2 c gs C r b g v l h e k t =
     let s : _ = c .before .before .before .before in
@@ -46,13 +37,11 @@ returns-2 c gs C r b g v l h e k t =
     let q : moderate (a .total) ≡ true = moderate-of (a .total) (omega (arith, ap natAbs t, n)) in
     absurd (true≢false (sym (c .before .is-moderate .ensures ∙ ap moderate (toZ-ofZ (s .fits .total)) ∙ q) ∙ not-true _ (c .if2 .taken)))
 
--- src/total.rt:138:9
 walk-requires : tie.Need-walk-requires
 walk-requires c κs =
     let a : _ = c .before .before .before .before .before .args in
     range-holds (a .m) (a .from) (a .count) (sym (c .before .before .before .before .in-range .ensures) ∙ not-false _ (c .before .before .before .if1 .left))
 
--- src/total.rt:139:5
 add-result : tie.Need-add-result
 add-result c =
     let s : _ = c .before .before .before .before .before .before .before .before in
@@ -64,7 +53,6 @@ add-result c =
     rw (toZ-ofZ (s .fits .total), toZ-ofZ (abs-fits (w .result .inner) (omega arith)))
     (abs-fits (a .total +ℤ w .result .inner) (omega (arith, add-abs (a .total) (w .result .inner))))
 
--- src/total.rt:126:1
 returns-3 : tie.Need-returns-3
 returns-3 c gs C r b g v l h e k t =
     let s : _ = c .before .before .before .before .before .before .before .before in

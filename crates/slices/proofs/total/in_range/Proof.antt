@@ -1,32 +1,26 @@
 -- The tests in turn: the number of positions, the first slice, and the slices after it.
 use mathlib.Core.Path.{_∙_, ap}
-use Prim.Native.Nat.{ℕ, _-_, _^_, _<_, _≤_}
+use Prim.Native.Nat.{ℕ, _-_}
 use native.Mathlib.Omega.{arith}
 use lib.Dec.{leb}
-use Rattle.slices.proofs.OutcomeTests.{one-shifted}
+use Rattle.slices.proofs.BitTests.{one-shifted}
 use Rattle.slices.proofs.EntryChecks.{range-refused, range-passed, range-tested}
 use borrow.Author.Needs.{needs}
 use Rattle.slices.proofs.total.in_range.Statement.{statement}
 use Rattle.slices.proofs.total.in_range.Tie as tie
-use Rattle.slices.proofs.total.in_range.Reads as reads
-use Rattle.slices.proofs.total.in_range.Lts as lts
 
--- src/total.rt:78:9
 returns : tie.Need-returns
 returns c = range-refused (c .before .args .m) (c .before .args .from) (c .before .args .count) (c .if1 .taken)
 
--- src/total.rt:80:15
 shl-all : tie.Need-shl-all
 shl-all c = search needs
 
--- src/total.rt:82:9
 returns-2 : tie.Need-returns-2
 returns-2 c =
     let a : _ = c .before .before .args in
     let s : _ = one-shifted (a .m) (omega arith) in
     range-passed (a .m) (a .from) (a .count) (omega arith) (omega arith)
 
--- src/total.rt:74:1
 returns-3 : tie.Need-returns-3
 returns-3 c =
     let a : _ = c .before .before .args in

@@ -1,20 +1,12 @@
 -- The two tests are one on the absolute value.
-use mathlib.Core.Path.{_∙_, ap}
-use lib.IntN.{pos}
-use lib.Signed.{leZ}
 use mir.Facts.{toZ-ofZ}
 use Rattle.slices.proofs.EntryChecks.{total-low, total-tested}
-use borrow.Author.Needs.{needs}
 use Rattle.slices.proofs.total.is_moderate.Statement.{statement}
 use Rattle.slices.proofs.total.is_moderate.Tie as tie
-use Rattle.slices.proofs.total.is_moderate.Reads as reads
-use Rattle.slices.proofs.total.is_moderate.Lts as lts
 
--- src/total.rt:92:9
 returns : tie.Need-returns
 returns c = total-low (c .before .args .total) (rw (toZ-ofZ (c .before .fits .total)) at (c .if1 .taken))
 
--- src/total.rt:88:1
 returns-2 : tie.Need-returns-2
 returns-2 c = rw (toZ-ofZ (c .before .fits .total)) (total-tested (c .before .args .total) (rw (toZ-ofZ (c .before .fits .total)) at (c .if1 .left)))
 

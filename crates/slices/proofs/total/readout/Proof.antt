@@ -1,5 +1,5 @@
 -- The walk's shares are those of the slices asked for. A total that is refused is that of no sum.
-use mathlib.Core.Path.{_≡_, sym, _∙_, ap}
+use mathlib.Core.Path.{sym, _∙_, ap}
 use mathlib.Core.Bool.{true≢false}
 use Prim.Native.Nat.{ℕ, _+_}
 use native.Mathlib.Omega.{arith}
@@ -13,42 +13,32 @@ use Rattle.slices.proofs.SliceTotals.{readout-more, readout-moderate}
 use borrow.Author.Needs.{needs}
 use Rattle.slices.proofs.total.readout.Statement.{statement}
 use Rattle.slices.proofs.total.readout.Tie as tie
-use Rattle.slices.proofs.total.readout.Reads as reads
-use Rattle.slices.proofs.total.readout.Lts as lts
-use Rattle.slices.proofs.total.in_range.Reads as in-range-reads
-use Rattle.slices.proofs.total.walk.Reads as walk-reads
 
--- src/total.rt:149:9
 in-range-requires : tie.Need-in-range-requires
 in-range-requires c κs = search needs
 
--- src/total.rt:150:9
 returns : tie.Need-returns
 returns c gs C r b g v l h e k t =
     let a : _ = c .before .before .args in
     absurd (true≢false (sym (c .before .in-range .ensures ∙ range-of (a .m) (a .from) (a .count) h k) ∙ not-true _ (c .if1 .taken)))
 
--- src/total.rt:153:9
 returns-2 : tie.Need-returns-2
 returns-2 c gs C r b g v l h e k t =
     let a : _ = c .before .before .before .args in
     let s : _ = strings (a .m) r b g in
     absurd (omega (arith, readout-moderate (a .m) (polynomial gs) C (first C s) (second C s) (a .from) h (omega arith)))
 
--- src/total.rt:155:9
 walk-requires : tie.Need-walk-requires
 walk-requires c κs =
     let a : _ = c .before .before .before .before .args in
     range-holds (a .m) (a .from) (a .count) (sym (c .before .before .before .in-range .ensures) ∙ not-false _ (c .before .before .if1 .left))
 
--- src/total.rt:156:5
 add-result : tie.Need-add-result
 add-result c =
     let a : _ = c .before .before .before .before .before .before .args in
     let p : _ = range-holds (a .m) (a .from) (a .count) (sym (c .before .before .before .before .before .in-range .ensures) ∙ not-false _ (c .before .before .before .before .if1 .left)) in
     omega (arith, pow-mono (p .0), c .before .walk .ensures .shares-bound)
 
--- src/total.rt:143:1
 returns-3 : tie.Need-returns-3
 returns-3 c gs C r b g v l h e k t =
     let a : _ = c .before .before .before .before .before .before .args in

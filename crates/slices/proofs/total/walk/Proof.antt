@@ -1,6 +1,6 @@
 -- Before slice n the sums are those of the slices from `from` to n, and the rows those of slice n, unless the slices are all worked.
-use mathlib.Core.Path.{_≡_, sym, _∙_, ap}
-use Prim.Native.Nat.{ℕ, _+_, _-_, _^_, _≤_, _<_}
+use mathlib.Core.Path.{_≡_, _∙_}
+use Prim.Native.Nat.{_+_, _-_, _^_, _≤_, _<_}
 use native.Mathlib.Omega.{arith}
 use lib.Pow.{pow-mono}
 use Rattle.slices.specs.Walking.{Walked}
@@ -9,13 +9,6 @@ use Rattle.slices.proofs.SlicesAdded.{RowsAt, walked-none, walked-one, 
 use borrow.Author.Needs.{needs}
 use Rattle.slices.proofs.total.walk.Statement.{statement}
 use Rattle.slices.proofs.total.walk.Tie as tie
-use Rattle.slices.proofs.total.walk.Reads as reads
-use Rattle.slices.proofs.total.walk.Lts as lts
-use Rattle.slices.proofs.total.with_one.Reads as with-one-reads
-use Rattle.slices.proofs.total.with_two.Reads as with-two-reads
-use Rattle.slices.proofs.walk.changes.Reads as changes-reads
-use Rattle.slices.proofs.walk.next_rows.Reads as next-rows-reads
-use Rattle.slices.proofs.walk.rows_at.Reads as rows-at-reads
 
 abbrev Inv-loop : tie.InvT-loop
 Inv-loop table m from count steps size end sums₀ rows₀ n₀ sums rows n =
@@ -24,60 +17,47 @@ Inv-loop table m from count steps size end sums₀ rows₀ n₀ sums rows n =
 abbrev μ-loop : tie.MeasureT-loop
 μ-loop table m from count steps size end sums₀ rows₀ n₀ sums rows n = end - n
 
--- src/total.rt:66:17
 changes-requires : tie.Need-changes-requires Inv-loop μ-loop
 changes-requires c κs = search needs
 
--- src/total.rt:67:16
 cast-size : tie.Need-cast-size Inv-loop μ-loop
 cast-size c = omega arith
 
--- src/total.rt:68:15
 add-end : tie.Need-add-end Inv-loop μ-loop
 add-end c = omega (arith, pow-mono (c .before .pre .0))
 
--- src/total.rt:70:9
 rows-at-requires : tie.Need-rows-at-requires Inv-loop μ-loop
 rows-at-requires c κs = search needs
 
--- src/total.rt:72:5
 loop-holds : tie.Need-loop-holds Inv-loop μ-loop
 loop-holds c =
     let a : _ = c .before .before .args in
     let z : a .from - a .from ≡ 0 = omega arith in
     (omega arith, omega arith, rw z (walked-none (a .table .now) (a .m) (a .from)), λ l. c .rows-at .ensures)
 
--- src/total.rt:72:11
 add-loop : tie.Need-add-loop Inv-loop μ-loop
 add-loop c = omega (arith, pow-mono (c .before .before .before .pre .0))
 
--- src/total.rt:73:46
 add-next-rows : tie.Need-add-next-rows Inv-loop μ-loop
 add-next-rows c = omega (arith, pow-mono (c .before .before .before .before .before .pre .0))
 
--- src/total.rt:73:13
 next-rows-requires : tie.Need-next-rows-requires Inv-loop μ-loop
 next-rows-requires c κs = omega (arith, pow-mono (c .before .before .before .before .before .pre .0))
 
--- src/total.rt:74:9
 with-two-requires : tie.Need-with-two-requires Inv-loop μ-loop
 with-two-requires c κs =
     let l : _ = c .before .before .before .loop in
     omega (arith, pow-mono (c .before .before .before .before .before .before .pre .0), l .inv .2 .inner-bound, l .inv .2 .shares-bound)
 
--- src/total.rt:75:9
 add-n : tie.Need-add-n Inv-loop μ-loop
 add-n c = omega (arith, pow-mono (c .before .before .before .before .before .before .before .pre .0))
 
--- src/total.rt:76:13
 next-rows-requires-2 : tie.Need-next-rows-requires-2 Inv-loop μ-loop
 next-rows-requires-2 c κs = omega (arith, pow-mono (c .before .before .before .before .before .before .before .before .pre .0))
 
--- src/total.rt:72:5
 loop-less : tie.Need-loop-less Inv-loop μ-loop
 loop-less c = omega arith
 
--- src/total.rt:72:5
 loop-again : tie.Need-loop-again Inv-loop μ-loop
 loop-again c =
     let a : _ = c .before .before .before .before .before .before .before .before .before .args in
@@ -93,13 +73,11 @@ loop-again c =
       λ h f C e. c .next-rows2 .ensures ∙ rows-next (a .m) f C (l .n + 1) (l .n + 2) (x .result) (d .result) (p .0) (omega arith) h (o f C e) (d .ensures f C e),
     )
 
--- src/total.rt:80:9
 with-one-requires : tie.Need-with-one-requires Inv-loop μ-loop
 with-one-requires c κs =
     let l : _ = c .before .before .loop in
     omega (arith, pow-mono (c .before .before .before .before .before .pre .0), l .inv .2 .inner-bound, l .inv .2 .shares-bound)
 
--- src/total.rt:62:1
 returns : tie.Need-returns Inv-loop μ-loop
 returns c =
     let a : _ = c .before .before .before .before .before .before .args in
@@ -108,7 +86,6 @@ returns c =
     let k : a .count ≡ l .n + 1 - a .from = omega arith in
     rw k (walked-one (a .table .now) (a .m) (a .from) (p .0) (l .n) (l .sums) _ (l .rows) (l .inv .0) (l .inv .2) (l .inv .3 (omega arith)) (c .with-one .ensures))
 
--- src/total.rt:62:1
 returns-2 : tie.Need-returns-2 Inv-loop μ-loop
 returns-2 c =
     let a : _ = c .before .before .before .before .before .args in

@@ -1,6 +1,5 @@
 -- The elimination's outcome, its answer, and the sums with it.
 use mathlib.Core.Path.{_∙_, ap}
-use native.Mathlib.Omega.{arith}
 use Rattle.elimination.specs.Rows.{pivots}
 use Rattle.elimination.specs.State.{begun}
 use Rattle.slices.specs.Answers.{answerOf, answerTo}
@@ -9,21 +8,13 @@ use Rattle.slices.proofs.SlicesAdded.{outcome-is, answer-bounds}
 use borrow.Author.Needs.{needs}
 use Rattle.slices.proofs.total.with_one.Statement.{statement}
 use Rattle.slices.proofs.total.with_one.Tie as tie
-use Rattle.slices.proofs.total.with_one.Reads as reads
-use Rattle.slices.proofs.total.with_one.Lts as lts
-use Rattle.elimination.proofs.eliminate.Reads as eliminate-reads
-use Rattle.slices.proofs.slice.answer.Reads as answer-reads
-use Rattle.slices.proofs.total.with_slice.Reads as with-slice-reads
 
--- src/total.rt:46:35
 eliminate-requires : tie.Need-eliminate-requires
 eliminate-requires c κs = search needs
 
--- src/total.rt:46:25
 answer-requires : tie.Need-answer-requires
 answer-requires c κs = search needs
 
--- src/total.rt:46:5
 with-slice-requires : tie.Need-with-slice-requires
 with-slice-requires c κs =
     let a : _ = c .before .before .args in
@@ -31,7 +22,6 @@ with-slice-requires c κs =
     let b : _ = answer-bounds (a .m) (c .before .eliminate .result) (c .answer .result) (p .0) (c .answer .ensures) in
     (p .0, b .0, b .1, p .1, p .2)
 
--- src/total.rt:42:1
 returns : tie.Need-returns
 unfolding answerTo
 returns c =

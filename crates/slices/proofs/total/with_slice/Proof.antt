@@ -7,14 +7,9 @@ use mir.Facts.{toZ-ofZ}
 use Rattle.gf2.proofs.Bounds.{add-abs}
 use Rattle.slices.specs.Walking.{plusSlice}
 use Rattle.slices.proofs.OutcomeTests.{abs-fits, share-le}
-use borrow.Author.Needs.{needs}
 use Rattle.slices.proofs.total.with_slice.Statement.{statement}
 use Rattle.slices.proofs.total.with_slice.Tie as tie
-use Rattle.slices.proofs.total.with_slice.Reads as reads
-use Rattle.slices.proofs.total.with_slice.Lts as lts
-use Rattle.slices.proofs.slice.share.Reads as share-reads
 
--- src/total.rt:37:16
 add-t4 : tie.Need-add-t4
 add-t4 c =
     let a : _ = c .before .before .before .before .args in
@@ -22,18 +17,15 @@ add-t4 c =
     rw (toZ-ofZ (abs-fits (a .sums .inner) (omega arith)), toZ-ofZ (abs-fits (a .slice .inner) (omega arith)))
     (abs-fits (a .sums .inner +ℤ a .slice .inner) (omega (arith, add-abs (a .sums .inner) (a .slice .inner))))
 
--- src/total.rt:38:31
 share-requires : tie.Need-share-requires
 share-requires c κs = (c .before .before .before .before .pre .0, c .before .before .before .before .pre .1)
 
--- src/total.rt:38:17
 add-t6 : tie.Need-add-t6
 add-t6 c =
     let a : _ = c .before .before .before .before .before .before .args in
     let p : _ = c .before .before .before .before .before .before .pre in
     omega (arith, c .before .share .ensures, share-le (a .m) (a .slice) (p .0))
 
--- src/total.rt:32:1
 returns : tie.Need-returns
 unfolding plusSlice
 returns c =

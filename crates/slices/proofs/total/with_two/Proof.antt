@@ -1,5 +1,5 @@
 -- Both outcomes, their answers, and the sums with one and then the other.
-use mathlib.Core.Path.{_≡_, _∙_, ap, ap₂}
+use mathlib.Core.Path.{_∙_, ap, ap₂}
 use native.Mathlib.Omega.{arith}
 use lib.IntN.{natAbs}
 use Rattle.slices.specs.declared.total.Sums.{Sums}
@@ -9,21 +9,13 @@ use Rattle.slices.proofs.SlicesAdded.{answer-bounds, plus-abs, plus-sha
 use borrow.Author.Needs.{needs}
 use Rattle.slices.proofs.total.with_two.Statement.{statement}
 use Rattle.slices.proofs.total.with_two.Tie as tie
-use Rattle.slices.proofs.total.with_two.Reads as reads
-use Rattle.slices.proofs.total.with_two.Lts as lts
-use Rattle.elimination.proofs.eliminate_both.Reads as eliminate-both-reads
-use Rattle.slices.proofs.slice.answer.Reads as answer-reads
-use Rattle.slices.proofs.total.with_slice.Reads as with-slice-reads
 
--- src/total.rt:54:9
 eliminate-both-requires : tie.Need-eliminate-both-requires
 eliminate-both-requires c κs = search needs
 
--- src/total.rt:57:37
 answer-requires : tie.Need-answer-requires
 answer-requires c κs = search needs
 
--- src/total.rt:57:9
 with-slice-requires : tie.Need-with-slice-requires
 with-slice-requires c κs =
     let a : _ = c .before .before .before .before .args in
@@ -31,11 +23,9 @@ with-slice-requires c κs =
     let b : _ = answer-bounds (a .m) _ (c .answer .result) (p .0) (c .answer .ensures) in
     (p .0, b .0, b .1, omega arith, omega arith)
 
--- src/total.rt:58:26
 answer-requires-2 : tie.Need-answer-requires-2
 answer-requires-2 c κs = search needs
 
--- src/total.rt:58:5
 with-slice-requires-2 : tie.Need-with-slice-requires-2
 with-slice-requires-2 c κs =
     let a : _ = c .before .before .before .before .before .before .args in
@@ -50,7 +40,6 @@ with-slice-requires-2 c κs =
       omega (arith, ap (λ (s : Sums). s .shares) (c .before .with-slice .ensures), plus-shares (a .m) (x .result) (a .sums) (p .0)),
     )
 
--- src/total.rt:50:1
 returns : tie.Need-returns
 unfolding answerTo
 returns c =

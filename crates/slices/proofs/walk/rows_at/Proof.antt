@@ -1,5 +1,5 @@
 -- After the positions below p the rows are those of the constant and of these positions; at the end these are all.
-use mathlib.Core.Path.{_≡_, sym, _∙_, ap}
+use mathlib.Core.Path.{_≡_, _∙_, ap}
 use mathlib.Core.Logic.{⊎-elim}
 use native.Mathlib.Numerals.{add-one}
 use Prim.Native.Nat.{ℕ, suc, _+_, _-_, _≤_}
@@ -27,6 +27,9 @@ moved-requires c κs = search needs
 loop-holds : tie.Need-loop-holds Inv-loop μ-loop
 loop-holds c = (omega arith, omega arith, λ f C e. c .moved .ensures ∙ below-one f C (c .before .args .table .now) e (highFirst (c .before .args .m) (c .before .args .n)))
 
+digit-at-requires : tie.Need-digit-at-requires Inv-loop μ-loop
+digit-at-requires c κs = omega arith
+
 shr-if1 : tie.Need-shr-if1 Inv-loop μ-loop
 shr-if1 c = omega arith
 
@@ -41,15 +44,16 @@ loop-less c = omega arith
 
 loop-again : tie.Need-loop-again Inv-loop μ-loop
 loop-again c =
-    let a : _ = c .before .before .before .before .args in
-    let l : _ = c .before .before .loop in
+    let a : _ = c .before .before .before .before .before .args in
+    let l : _ = c .before .before .before .loop in
+    let d : _ = c .before .digit-at in
     let z : _ = highFirst (a .m) (a .n) in (
       omega arith,
       omega arith,
       λ f C e. rw add-one
           (⊎-elim
-          (λ w. w .2 ∙ w .1 .ensures ∙ below-set f C (a .table .now) e z (l .rows) (l .p) (omega arith) (digit-set (a .m) (a .n) (l .p) (omega arith) (omega arith) (w .0 .taken)) (l .inv .2 f C e))
-          (λ w. w .1 ∙ below-clear f C (a .table .now) e z (l .rows) (l .p) (digit-clear (a .m) (a .n) (l .p) (omega arith) (omega arith) (w .0 .left)) (l .inv .2 f C e))
+          (λ w. w .2 ∙ w .1 .ensures ∙ below-set f C (a .table .now) e z (l .rows) (l .p) (omega arith) (digit-set (a .m) (a .n) (l .p) (d .result) (d .ensures) (omega arith) (omega arith) (w .0 .taken)) (l .inv .2 f C e))
+          (λ w. w .1 ∙ below-clear f C (a .table .now) e z (l .rows) (l .p) (digit-clear (a .m) (a .n) (l .p) (d .result) (d .ensures) (omega arith) (omega arith) (w .0 .left)) (l .inv .2 f C e))
           (c .if1 .came)),
     )
 
@@ -68,6 +72,7 @@ rows-at-spec =
     μ-loop
     moved-requires
     loop-holds
+    digit-at-requires
     shr-if1
     moved-requires-2
     add-p

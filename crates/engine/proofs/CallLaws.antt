@@ -1,0 +1,162 @@
+-- What the public calls give: a line skipped, a buffer too short, a line answered; a fetch with no line and with one.
+use mathlib.Core.Path.{_≡_, refl, ap, sym, _∙_}
+use mathlib.Core.Bool.{Bool, true, false, cond}
+use mathlib.Core.List.{List, []}
+use Prim.Native.Nat.{ℕ, zero, suc, _-_, _≤_, _<_}
+use native.Mathlib.Omega.{arith}
+use native.Mathlib.Numerals.{sub-one}
+use lib.Dec.{eqb, leb, ltb}
+use lib.ListN.{length}
+use borrow.Author.Tests.{eq-eqb, ne-eqb, lt-ltb, le-ltb, le-leb}
+use Rattle.circuit.specs.declared.Gate.{Gate}
+use Rattle.circuit.specs.declared.Gate.the-variants as Gate
+use Rattle.circuit.specs.declared.Entry.{Entry}
+use Rattle.circuit.specs.declared.Entry.the-variants.{Listed as ListedAt, Nothing}
+use Rattle.circuit.specs.Sum.{isGate}
+use Rattle.circuit.specs.Polynomial.{Polynomial, appliedAll, polynomial}
+use Rattle.circuit.specs.Words.{wordsOf}
+use Rattle.circuit.specs.Listing.{listing, entryOf}
+use Rattle.circuit.proofs.Gates.{ccz-positions, cz-positions, cnot-positions}
+use Rattle.circuit.proofs.TermGates.{entry-gate}
+use Rattle.lines.specs.declared.Form.{Form}
+use Rattle.lines.specs.Forms.{formOf}
+use Rattle.answers.specs.declared.Answer.{Answer}
+use Rattle.answers.specs.declared.Answer.the-variants as Answer
+use Rattle.answers.specs.Answers.{bytesOf, infront, Written}
+use Rattle.answers.proofs.Lengths.{ModestGate, answer-fits}
+use Rattle.engine.specs.declared.State.{State}
+use Rattle.engine.specs.Engine.{Loaded, absent, present, Engine}
+use Rattle.refusals.specs.Refusals.{lineGates}
+use Rattle.engine.specs.Response.{gatesOf}
+use Rattle.engine.specs.State.{encodeLoaded, encode, Holds}
+use Rattle.engine.specs.Calls.{refusalNumber, hasLines, answering, tooShort, skipped, response, Given, entryBytes, lineNumbered, laterLine, fetchedBytes, FetchGiven}
+use Rattle.engine.specs.Turns.{Turned}
+use Rattle.engine.proofs.TurnAnswers.{turn-fits}
+use Rattle.engine.proofs.TurnTaken.{listed-kept}
+
+-- ---- states and buffers
+
+-- Whether lines can be fetched is a field of its own.
+abbrev withLines : State → Bool → State
+withLines s b = record { m = s .m; held = s .held; start = s .start; polynomial = s .polynomial; sum = s .sum; listed = b }
+
+relisted : (x : Loaded) (l b : Bool) (s : State) → s ≡ encodeLoaded x l → withLines s b ≡ encodeLoaded x b
+unfolding encodeLoaded
+relisted absent l b s e = rw e
+relisted (present c o) l b s e = rw e
+
+-- A text that has room is written whole.
+record Whole (text buffer : List ℕ) (count : ℕ) (after : List ℕ) : Type 0 where
+  counted : count ≡ length text
+  stands : after ≡ infront text buffer
+
+written-whole : (text buffer : List ℕ) (count : ℕ) (after : List ℕ) → length text ≤ 64 → 64 ≤ length buffer → Written text buffer count after → Whole text buffer count after
+written-whole text buffer count after t b w =
+    let room : leb (length text) (length buffer) ≡ true = le-leb (length text) (length buffer) (omega arith) in
+    record { counted = rw room at (w .counted); stands = rw room at (w .stands) }
+
+-- ---- a line
+
+module _ (e : Engine) (s : State) (h line buffer : List ℕ) (held : Holds e s h) where
+  pub given-none : length line ≡ 0 → Given e h line buffer (record { state = s; len = 0; refusal = 0 }) h buffer
+  unfolding response skipped infront
+  given-none z =
+      let t : eqb (length line) 0 ≡ true = eq-eqb (length line) 0 z in
+      record { state = rw t (held .state); len = rw t; refusal = rw t; history = rw t; stands = rw t }
+
+  module _ (some : length line ≡ 0 → ⊥) where
+    pub given-short : length buffer < 64 → Given e h line buffer (record { state = withLines s false; len = 0; refusal = 1 }) h buffer
+    unfolding response tooShort infront encode
+    given-short l =
+        let t : eqb (length line) 0 ≡ false = ne-eqb (length line) 0 some in
+        let r : ltb (length buffer) 64 ≡ true = lt-ltb (length buffer) 64 l in
+        record { state = rw (t, r) (relisted (e .loaded) (e .listed) false s (held .state)); len = rw (t, r); refusal = rw (t, r); history = rw (t, r); stands = rw (t, r) }
+
+    pub given-answer :
+        64 ≤ length buffer → (form : Form) (s' : State) (a : Answer) (h' : List ℕ) (count : ℕ) (buffer' : List ℕ) (lines : Bool) (number : ℕ) →
+        form ≡ formOf line → Turned e h form (lineGates form line) s' a h' → Written (bytesOf a) buffer count buffer' → lines ≡ hasLines a → number ≡ refusalNumber a →
+        Given e h line buffer (record { state = withLines s' lines; len = count; refusal = number }) h' buffer'
+    unfolding response answering encode
+    given-answer l form s' a h' count buffer' lines number is turned w m n =
+        let t : eqb (length line) 0 ≡ false = ne-eqb (length line) 0 some in
+        let r : ltb (length buffer) 64 ≡ false = le-ltb (length buffer) 64 l in
+        let d : Turned e h (formOf line) (lineGates (formOf line) line) s' a h' = rw is at turned in
+        let whole = written-whole _ buffer count buffer' (rw (d .answer) (turn-fits (e .loaded) (length h) line (held .sound))) l w in
+        record {
+          state = rw (t, r, ← d .answer, m) (relisted _ (e .listed) (hasLines a) s' (d .state));
+          len = rw (t, r, ← d .answer) (whole .counted);
+          refusal = rw (t, r, ← d .answer) n;
+          history = rw (t, r, ← d .answer) (d .history);
+          stands = rw (t, r, ← d .answer) (whole .stands);
+        }
+
+-- ---- a fetch
+
+words-held : (x : Loaded) (l : Bool) → encodeLoaded x l .polynomial ≡ wordsOf (polynomial (gatesOf x))
+unfolding encodeLoaded gatesOf polynomial appliedAll
+words-held absent l = refl
+words-held (present c o) l = refl
+
+line-at : (gs : List Gate) (n : ℕ) → (n ≡ 0 → ⊥) → lineNumbered gs n ≡ entryBytes (entryOf (listing 16 (polynomial gs)) (n - 1))
+unfolding lineNumbered
+line-at gs zero some = absurd (some refl)
+line-at gs (suc n) some = ap (λ (k : ℕ). entryBytes (entryOf (listing 16 (polynomial gs)) k)) (sym (sub-one (suc n)))
+
+-- A listed gate's positions have two digits at most.
+gate-modest : (g : Gate) → isGate 16 g ≡ true → ModestGate g
+gate-modest (Gate.Ccz i j k) h = let p = ccz-positions 16 i j k h in (omega (arith, p .0), omega (arith, p .1), omega (arith, p .2))
+gate-modest (Gate.Cz p q) h = let r = cz-positions 16 p q h in (omega (arith, r .0), omega (arith, r .1))
+gate-modest (Gate.Cnot C c t) h = let r = cnot-positions 16 C c t h in (omega (arith, r .0), omega (arith, r .1))
+
+module _ (e : Engine) (s : State) (h buffer : List ℕ) (held : Holds e s h) (n : ℕ) where
+  pub fetch-short : length buffer < 64 → FetchGiven e n buffer (record { len = 0; refusal = 1 }) buffer
+  unfolding fetchedBytes infront
+  fetch-short l =
+      let r : ltb (length buffer) 64 ≡ true = lt-ltb (length buffer) 64 l in
+      record { len = rw r; refusal = rw r; stands = rw r }
+
+  module _ (room : 64 ≤ length buffer) where
+    long : ltb (length buffer) 64 ≡ false
+    long = le-ltb (length buffer) 64 room
+
+    -- Nothing is written where there is no such line.
+    no-line : laterLine e n ≡ [] → FetchGiven e n buffer (record { len = 0; refusal = 0 }) buffer
+    unfolding fetchedBytes infront
+    no-line z = record { len = rw (long, z); refusal = rw long; stands = rw (long, z) }
+
+    pub fetch-nought : n ≡ 0 → FetchGiven e n buffer (record { len = 0; refusal = 0 }) buffer
+    unfolding laterLine lineNumbered
+    fetch-nought z = no-line (ap (laterLine e) z ∙ nought (e .listed))
+      where
+        nought : (b : Bool) → cond {A = List ℕ} b [] [] ≡ []
+        nought true = refl
+        nought false = refl
+
+    pub fetch-unlisted : s .listed ≡ false → FetchGiven e n buffer (record { len = 0; refusal = 0 }) buffer
+    unfolding laterLine encode
+    fetch-unlisted u = no-line (rw (sym (ap (λ (t : State). t .listed) (held .state) ∙ listed-kept (e .loaded) (e .listed)) ∙ u))
+
+    module _ (some : n ≡ 0 → ⊥) (lists : s .listed ≡ true) (found : Entry) (entry : (f : Polynomial) → s .polynomial ≡ wordsOf f → found ≡ entryOf (listing 16 f) (n - 1)) where
+      entry-found : found ≡ entryOf (listing 16 (polynomial (gatesOf (e .loaded)))) (n - 1)
+      unfolding encode
+      entry-found = entry _ (ap (λ (t : State). t .polynomial) (held .state) ∙ words-held (e .loaded) (e .listed))
+
+      later-line : laterLine e n ≡ entryBytes found
+      unfolding laterLine encode
+      later-line =
+          rw (sym (ap (λ (t : State). t .listed) (held .state) ∙ listed-kept (e .loaded) (e .listed)) ∙ lists)
+          (line-at (gatesOf (e .loaded)) n some ∙ ap entryBytes (sym entry-found))
+
+      pub fetch-past : found ≡ Nothing → FetchGiven e n buffer (record { len = 0; refusal = 0 }) buffer
+      unfolding entryBytes
+      fetch-past z = no-line (later-line ∙ ap entryBytes z)
+
+      pub fetch-line :
+          (g : Gate) (count : ℕ) (buffer' : List ℕ) → found ≡ ListedAt g → Written (bytesOf (Answer.Listed g)) buffer count buffer' →
+          FetchGiven e n buffer (record { len = count; refusal = 0 }) buffer'
+      unfolding fetchedBytes entryBytes
+      fetch-line g count buffer' z w =
+          let line : laterLine e n ≡ bytesOf (Answer.Listed g) = later-line ∙ ap entryBytes z in
+          let valid : isGate 16 g ≡ true = entry-gate 16 (polynomial (gatesOf (e .loaded))) (n - 1) g (sym entry-found ∙ z) in
+          let whole = written-whole _ buffer count buffer' (answer-fits (Answer.Listed g) (gate-modest g valid)) room w in
+          record { len = rw (long, line) (whole .counted); refusal = rw long; stands = rw (long, line) (whole .stands) }

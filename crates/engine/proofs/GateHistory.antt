@@ -1,0 +1,64 @@
+-- The codes of gates in the history: one gate more is one place written, and the last place held has the last gate's code.
+use mathlib.Core.Path.{_≡_, refl, ap, sym, _∙_}
+use mathlib.Core.List.{List, [], _∷_, _++_, map, map-append, append-assoc}
+use Prim.Native.Nat.{ℕ, zero, suc, _+_, _≤_, _<_}
+use native.Mathlib.Nat.{add-zero}
+use native.Mathlib.Omega.{arith}
+use lib.ListN.{length, getD, take, drop, set, length-append, length-take, length-drop, length-map, take-append-drop}
+use lib.Seq.{drop-cons, set-at, getD-at, getD-take, take-take, length-take-le}
+use Rattle.circuit.specs.declared.Gate.{Gate}
+use Rattle.circuit.specs.History.{codeOf}
+use Rattle.engine.specs.Calls.{stored}
+
+-- ---- gates put in
+
+pub stored-none : (held : ℕ) (h : List ℕ) → stored held [] h ≡ h
+unfolding stored
+stored-none held h = rw add-zero (take-append-drop held h)
+
+module _ (held : ℕ) (gs : List Gate) (h : List ℕ) where
+  front : List ℕ
+  front = take held h ++ map codeOf gs
+
+  length-front : held ≤ length h → length front ≡ held + length gs
+  unfolding front
+  length-front k = simp (length-append, length-take, length-map) (omega arith)
+
+  pub length-stored : held + length gs ≤ length h → length (stored held gs h) ≡ length h
+  unfolding stored
+  length-stored k = simp (length-append, length-take, length-map, length-drop) (omega arith)
+
+  -- One gate more is one place written, the one after them.
+  pub stored-snoc : (g : Gate) → held + length gs < length h
+      → set (stored held gs h) (held + length gs) (codeOf g) ≡ stored held (gs ++ (g ∷ [])) h
+  unfolding stored front
+  stored-snoc g k =
+      let rest : List ℕ = drop (suc (held + length gs)) h in
+      let x : ℕ = getD h (held + length gs) 0 in
+      let n : held + length (gs ++ (g ∷ [])) ≡ suc (held + length gs) = omega (arith, length-append gs (g ∷ [])) in
+      rw (drop-cons h (held + length gs) 0 k, ← append-assoc (take held h) (map codeOf gs) (x ∷ rest), set-at front x rest (codeOf g) (held + length gs) (length-front (omega arith)))
+      (rw (n, map-append codeOf gs (g ∷ []), append-assoc (map codeOf gs) (codeOf g ∷ []) rest) (append-assoc (take held h) (map codeOf gs) (codeOf g ∷ rest)))
+
+-- ---- gates held
+
+pub codes-within : (gs : List Gate) (h : List ℕ) → take (length gs) h ≡ map codeOf gs → length gs ≤ length h
+codes-within gs h codes = omega (arith, ap length codes, length-take (length gs) h, length-map gs codeOf)
+
+take-map : (n : ℕ) (gs : List Gate) → take n (map codeOf gs) ≡ map codeOf (take n gs)
+take-map zero gs = refl
+take-map (suc n) [] = refl
+take-map (suc n) (g ∷ gs) = ap (λ (l : List ℕ). codeOf g ∷ l) (take-map n gs)
+
+-- The codes of the first gates stand in the first places.
+pub codes-front : (n : ℕ) (gs : List Gate) (h : List ℕ) → n ≤ length gs → take (length gs) h ≡ map codeOf gs
+    → take (length (take n gs)) h ≡ map codeOf (take n gs)
+codes-front n gs h k codes =
+    rw (length-take-le n gs k) (sym (take-take n (length gs) h k) ∙ ap (take n) codes ∙ take-map n gs)
+
+-- The last place held has the last gate's code.
+pub last-code : (gs : List Gate) (g : Gate) (h : List ℕ) → take (length (gs ++ (g ∷ []))) h ≡ map codeOf (gs ++ (g ∷ []))
+    → getD h (length gs) 0 ≡ codeOf g
+last-code gs g h codes =
+    sym (getD-take (length (gs ++ (g ∷ []))) h (length gs) 0 (omega (arith, length-append gs (g ∷ []))))
+    ∙ ap (λ (l : List ℕ). getD l (length gs) 0) (codes ∙ map-append codeOf gs (g ∷ []))
+    ∙ getD-at (map codeOf gs) (codeOf g) [] 0 (length gs) (length-map gs codeOf)

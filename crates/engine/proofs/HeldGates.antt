@@ -1,0 +1,55 @@
+-- The gates that an engine holds are gates of its circuit: those of a line that passes the tests, those added at the end, those left by an undo.
+use mathlib.Core.Path.{_≡_, refl}
+use mathlib.Core.Bool.{Bool, true, false, not, _&&_}
+use mathlib.Core.List.{List, [], _∷_, _++_}
+use Prim.Native.Nat.{ℕ, zero, suc}
+use lib.Dec.{eqb}
+use lib.ListN.{take}
+use Rattle.circuit.specs.declared.Gate.{Gate}
+use Rattle.circuit.specs.declared.Gate.the-variants as Gate
+use Rattle.circuit.specs.Colours.{sameColour}
+use Rattle.circuit.specs.Sum.{isPosition, isGate, areGates}
+use Rattle.circuit.proofs.Gates.{and-left, and-right}
+use Rattle.lines.specs.Spelling.{colourTwice, anyColourTwice}
+use Rattle.refusals.specs.Refusals.{inRange, allInRange, onItself, anyOnItself}
+use Rattle.engine.proofs.Passing.{or-none}
+
+both : (a b : Bool) → a ≡ true → b ≡ true → a && b ≡ true
+both true b h k = k
+both false b h k = h
+
+both-not : (a b c : Bool) → a && b ≡ true → c ≡ false → a && (b && not c) ≡ true
+both-not true true c h k = rw k
+both-not true false c h k = h
+both-not false b c h k = h
+
+gate-by-tests : (m : ℕ) (g : Gate) → inRange m g ≡ true → onItself g ≡ false → colourTwice g ≡ false → isGate m g ≡ true
+unfolding inRange onItself colourTwice isGate
+gate-by-tests m (Gate.Ccz i j k) r s t = r
+gate-by-tests m (Gate.Cz p q) r s t = both-not (isPosition m (p .position)) (isPosition m (q .position)) (sameColour (p .colour) (q .colour)) r t
+gate-by-tests m (Gate.Cnot C c t) r s u = both-not (isPosition m c) (isPosition m t) (eqb c t) r s
+
+pub gates-by-tests :
+    (m : ℕ) (gs : List Gate) → allInRange m gs ≡ true → anyOnItself gs ≡ false → anyColourTwice gs ≡ false → areGates m gs ≡ true
+unfolding allInRange anyOnItself anyColourTwice areGates
+gates-by-tests m [] r s t = refl
+gates-by-tests m (g ∷ gs) r s t =
+    let i = or-none (onItself g) (anyOnItself gs) s in
+    let c = or-none (colourTwice g) (anyColourTwice gs) t in
+    both (isGate m g) (areGates m gs) (gate-by-tests m g (and-left (inRange m g) (allInRange m gs) r) (i .0) (c .0))
+    (gates-by-tests m gs (and-right (inRange m g) (allInRange m gs) r) (i .1) (c .1))
+
+pub gates-added : (m : ℕ) (gs hs : List Gate) → areGates m gs ≡ true → areGates m hs ≡ true → areGates m (gs ++ hs) ≡ true
+unfolding areGates
+gates-added m [] hs g h = h
+gates-added m (x ∷ gs) hs g h =
+    both (isGate m x) (areGates m (gs ++ hs)) (and-left (isGate m x) (areGates m gs) g)
+    (gates-added m gs hs (and-right (isGate m x) (areGates m gs) g) h)
+
+pub gates-left : (m n : ℕ) (gs : List Gate) → areGates m gs ≡ true → areGates m (take n gs) ≡ true
+unfolding areGates
+gates-left m zero gs g = refl
+gates-left m (suc n) [] g = refl
+gates-left m (suc n) (x ∷ gs) g =
+    both (isGate m x) (areGates m (take n gs)) (and-left (isGate m x) (areGates m gs) g)
+    (gates-left m n gs (and-right (isGate m x) (areGates m gs) g))

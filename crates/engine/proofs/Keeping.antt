@@ -1,0 +1,168 @@
+-- Every call leaves a state and a history that hold an engine: what a line does keeps the engine sound and its gates' codes in the history.
+use mathlib.Core.Path.{_≡_, refl, ap, sym, _∙_}
+use mathlib.Core.Bool.{Bool, true, false, cond}
+use mathlib.Core.List.{List, [], _∷_, _++_, map, append-assoc}
+use Prim.Native.Nat.{ℕ, zero, suc, _+_, _-_, _≤_}
+use native.Mathlib.Nat.{add-zero}
+use native.Mathlib.Omega.{arith}
+use lib.Dec.{eqb, ltb}
+use lib.ListN.{length, take, drop, length-append, length-take, length-drop, length-map, take-append-drop}
+use lib.Pow.{pow-pos}
+use lib.Seq.{take-at, take-take, length-take-le}
+use borrow.Author.Tests.{ne-eqb}
+use Rattle.circuit.specs.declared.Gate.{Gate}
+use Rattle.circuit.specs.Sum.{areGates}
+use Rattle.circuit.specs.History.{codeOf}
+use Rattle.lines.specs.declared.Form.{Form}
+use Rattle.lines.specs.Spelling.{anyColourTwice}
+use Rattle.lines.specs.Forms.{formOf}
+use Rattle.answers.specs.declared.Answer.{Answer}
+use Rattle.engine.specs.declared.State.{State}
+use Rattle.engine.specs.declared.Reply.{Reply}
+use Rattle.engine.specs.Engine.{Purpose, amplitude, readout, OpenSum, Loaded, Engine, freshEngine, Sound}
+use Rattle.refusals.specs.Refusals.{lineGates, places}
+use Rattle.engine.specs.Response.{total, gatesOf}
+use Rattle.engine.specs.State.{encode, Holds}
+use Rattle.engine.specs.Calls.{refusalNumber, stored, answering, tooShort, skipped, Response, response, Given}
+use Rattle.engine.proofs.Views.{View, refuses, passesBy, creates, adds, takesBack, starts, opensAmplitude, opensReadout, worksOn, finishes, drops, lists, view}
+use Rattle.engine.proofs.LineColours.{line-colours}
+use Rattle.engine.proofs.HeldGates.{gates-by-tests, gates-added, gates-left}
+
+-- ---- soundness
+
+sound-kept :
+    {room : ℕ} {l : List ℕ} {e e' : Loaded} {f : Form} {a : Answer} → View room l e f e' a → anyColourTwice (lineGates f l) ≡ false →
+    Sound e → Sound e'
+unfolding areGates
+sound-kept refuses t s = s
+sound-kept passesBy t s = s
+sound-kept (creates i low high) t s = record { least = low; most = high; gates = refl; opened = tt }
+sound-kept {l = l} {f = f} (adds {c = c} g r i w) t s =
+    record {
+      least = s .least;
+      most = s .most;
+      gates = gates-added (c .m) (c .gates) (lineGates f l) (s .gates) (gates-by-tests (c .m) (lineGates f l) r i t);
+      opened = tt;
+    }
+sound-kept (takesBack {c = c} {k = k}) t s =
+    record { least = s .least; most = s .most; gates = gates-left (c .m) (length (c .gates) - k) (c .gates) (s .gates); opened = tt }
+sound-kept (starts r b g) t s = record { least = s .least; most = s .most; gates = s .gates; opened = tt }
+sound-kept (opensAmplitude {c = c} r b g) t s =
+    record { least = s .least; most = s .most; gates = s .gates; opened = record { gates = s .gates; worked = pow-pos (c .m) } }
+sound-kept (opensReadout {c = c} x y) t s =
+    record { least = s .least; most = s .most; gates = s .gates; opened = record { gates = s .gates; worked = pow-pos (c .m) } }
+sound-kept (worksOn w) t s =
+    record { least = s .least; most = s .most; gates = s .gates; opened = record { gates = s .opened .gates; worked = w } }
+sound-kept (finishes w) t s = record { least = s .least; most = s .most; gates = s .gates; opened = tt }
+sound-kept drops t s = record { least = s .least; most = s .most; gates = s .gates; opened = tt }
+sound-kept lists t s = record { least = s .least; most = s .most; gates = s .gates; opened = tt }
+
+-- ---- the history
+
+-- The codes of gates stand in the first places of a history that has room for them.
+record Stored (gs : List Gate) (h : List ℕ) : Type 0 where
+  codes : take (length gs) h ≡ map codeOf gs
+  room : length gs ≤ places (length h)
+
+-- Nothing put behind the gates held leaves the history as it was.
+stored-none : (n : ℕ) (h : List ℕ) → stored n [] h ≡ h
+unfolding stored
+stored-none n h = rw (add-zero n) (take-append-drop n h)
+
+map-append : (gs hs : List Gate) → map codeOf (gs ++ hs) ≡ map codeOf gs ++ map codeOf hs
+map-append [] hs = refl
+map-append (g ∷ gs) hs = ap (λ (l : List ℕ). codeOf g ∷ l) (map-append gs hs)
+
+map-take : (n : ℕ) (gs : List Gate) → map codeOf (take n gs) ≡ take n (map codeOf gs)
+map-take zero gs = refl
+map-take (suc n) [] = refl
+map-take (suc n) (g ∷ gs) = ap (λ (l : List ℕ). codeOf g ∷ l) (map-take n gs)
+
+length-stored : (n : ℕ) (gs : List Gate) (h : List ℕ) → n + length gs ≤ length h → length (stored n gs h) ≡ length h
+unfolding stored
+length-stored n gs h w = simp (length-append, length-take, length-drop, length-map) (omega arith)
+
+stored-more :
+    (gs hs : List Gate) (h : List ℕ) → Stored gs h → length gs + length hs ≤ places (length h) → Stored (gs ++ hs) (stored (length gs) hs h)
+unfolding places stored
+stored-more gs hs h s w =
+    record {
+      codes = ap (take (length (gs ++ hs))) behind ∙ take-at (map codeOf (gs ++ hs)) _ (length (gs ++ hs)) (length-map (gs ++ hs) codeOf);
+      room = rw (length-stored (length gs) hs h (omega arith), length-append gs hs) w;
+    }
+  where
+    behind : stored (length gs) hs h ≡ map codeOf (gs ++ hs) ++ drop (length gs + length hs) h
+    behind = rw (s .codes, map-append gs hs, append-assoc)
+
+stored-less : (gs : List Gate) (k : ℕ) (h : List ℕ) → Stored gs h → Stored (take (length gs - k) gs) h
+stored-less gs k h s =
+    record {
+      codes =
+          ap (λ (n : ℕ). take n h) count
+          ∙ sym (take-take (length gs - k) (length gs) h (omega arith))
+          ∙ ap (take (length gs - k)) (s .codes)
+          ∙ sym (map-take (length gs - k) gs);
+      room = omega (arith, count, s .room);
+    }
+  where
+    count : length (take (length gs - k) gs) ≡ length gs - k
+    count = length-take-le (length gs - k) gs (omega arith)
+
+total-taken : (m : ℕ) (o : OpenSum) (p : Purpose) → refusalNumber (total m o p) ≡ 0
+unfolding refusalNumber total
+total-taken m o amplitude = refl
+total-taken m o readout = refl
+
+-- The history after a line: its gates are stored unless it is refused.
+unfoldable historyAfter : Loaded → Form → List ℕ → Answer → List ℕ → List ℕ
+historyAfter e f l a h = cond (eqb (refusalNumber a) 0) (stored (length (gatesOf e)) (lineGates f l) h) h
+
+stored-kept :
+    {l h : List ℕ} {e e' : Loaded} {f : Form} {a : Answer} → View (length h) l e f e' a → Stored (gatesOf e) h →
+    Stored (gatesOf e') (historyAfter e f l a h)
+unfolding historyAfter refusalNumber lineGates gatesOf
+stored-kept (refuses {n = n}) s = rw (ne-eqb (suc n) 0 (λ z. omega arith)) s
+stored-kept {h = h} {e = e} passesBy s = rw (stored-none (length (gatesOf e)) h) s
+stored-kept {h = h} {e = e} (creates i low high) s = rw (stored-none (length (gatesOf e)) h) (record { codes = refl; room = omega arith })
+stored-kept {l = l} {h = h} {f = f} (adds {c = c} g r i w) s = stored-more (c .gates) (lineGates f l) h s w
+stored-kept {h = h} (takesBack {c = c} {k = k}) s = rw (stored-none (length (c .gates)) h) (stored-less (c .gates) k h s)
+stored-kept {h = h} (starts {c = c} r b g) s = rw (stored-none (length (c .gates)) h) s
+stored-kept {h = h} (opensAmplitude {c = c} r b g) s = rw (stored-none (length (c .gates)) h) s
+stored-kept {h = h} (opensReadout {c = c} x y) s = rw (stored-none (length (c .gates)) h) s
+stored-kept {h = h} (worksOn {c = c} w) s = rw (stored-none (length (c .gates)) h) s
+stored-kept {h = h} (finishes {c = c} {o = o} w) s = rw (total-taken (c .m) o (o .purpose), stored-none (length (c .gates)) h) s
+stored-kept {h = h} (drops {c = c}) s = rw (stored-none (length (c .gates)) h) s
+stored-kept {h = h} (lists {c = c}) s = rw (stored-none (length (c .gates)) h) s
+
+-- ---- an engine is held
+
+pub fresh-held : (h : List ℕ) → Holds freshEngine (encode freshEngine) h
+unfolding freshEngine gatesOf
+fresh-held h = record { state = refl; codes = refl; room = omega arith; sound = tt }
+
+module _ (e : Engine) (s : State) (h : List ℕ) (held : Holds e s h) where
+  abbrev Held : Response → Type 0
+  Held r = Holds (r .after) (encode (r .after)) (r .history)
+
+  answering-held : (line : List ℕ) → Held (answering e h line)
+  unfolding answering historyAfter
+  answering-held line =
+      let f = formOf line in
+      let v = view (length h) line (e .loaded) f in
+      let k = stored-kept v (record { codes = held .codes; room = held .room }) in
+      record { state = refl; codes = k .codes; room = k .room; sound = sound-kept v (line-colours line) (held .sound) }
+
+  response-held : (line : List ℕ) (room : ℕ) → Held (response e h line room)
+  unfolding response skipped tooShort
+  response-held line room = go (eqb (length line) 0) (ltb room 64)
+    where
+      go : (p q : Bool) → Held (cond p (skipped e h) (cond q (tooShort e h) (answering e h line)))
+      go true q = record { state = refl; codes = held .codes; room = held .room; sound = held .sound }
+      go false true = record { state = refl; codes = held .codes; room = held .room; sound = held .sound }
+      go false false = answering-held line
+
+  -- What a call leaves holds the engine after it.
+  pub held-on :
+      (line buffer : List ℕ) (r : Reply) (h' buffer' : List ℕ) → Given e h line buffer r h' buffer' →
+      Holds (response e h line (length buffer) .after) (r .state) h'
+  held-on line buffer r h' buffer' g = rw (g .state, g .history) (response-held line (length buffer))

@@ -1,0 +1,27 @@
+-- The form is `start`, whose turn changes the start alone.
+use Rattle.engine.proofs.TurnLaws.{own-form}
+use mathlib.Core.Path.{refl}
+use Rattle.engine.specs.Response.{accepted, withNewStart}
+use borrow.Author.Needs.{needs}
+use Rattle.engine.proofs.turns.start_turn.Statement.{statement}
+use Rattle.engine.proofs.turns.start_turn.Tie as tie
+
+enum-known-form : tie.Need-enum-known-form
+enum-known-form c = search needs
+
+turned-back-requires : tie.Need-turned-back-requires
+turned-back-requires c κs = search needs
+
+returns : tie.Need-returns
+returns c r b g e = own-form 6 (c .before .before .args .form) _ e tt (c .before .match .keys2)
+
+set-start-requires : tie.Need-set-start-requires
+set-start-requires c κs = search needs
+
+returns-2 : tie.Need-returns-2
+unfolding accepted withNewStart
+returns-2 c r b g e = rw (c .before .before .form .given .1) (λ k o l s h. record { state = c .set-start .ensures k o l h; answer = refl })
+
+pub start-turn-spec : {M : Type 1} → statement M
+start-turn-spec =
+    tie.close (tie.spec enum-known-form turned-back-requires returns set-start-requires returns-2)

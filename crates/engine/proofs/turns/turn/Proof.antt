@@ -1,0 +1,28 @@
+-- The places look at what the state holds of the engine, so the number found is the engine's refusal; with none the line is taken.
+use Rattle.engine.proofs.TurnRefused.{refused-turn, taken-turn}
+use borrow.Author.Needs.{needs}
+use Rattle.engine.proofs.turns.turn.Statement.{statement}
+use Rattle.engine.proofs.turns.turn.Tie as tie
+
+is-open-requires : tie.Need-is-open-requires
+is-open-requires c κs = search needs
+
+try-line-requires : tie.Need-try-line-requires
+try-line-requires c κs = search needs
+
+returns : tie.Need-returns
+returns c e h = refused-turn e _ _ h _ _ _ _ (c .before .before .is-open .ensures) (c .before .try-line .ensures .1) (c .if1 .taken)
+
+taken-requires : tie.Need-taken-requires
+taken-requires c κs = search needs
+
+same-length : tie.Need-same-length
+same-length c = search needs
+
+returns-2 : tie.Need-returns-2
+returns-2 c e h = taken-turn e _ _ h _ _ _ _ (c .before .before .before .before .before .before .is-open .ensures) (c .before .before .before .before .before .try-line .ensures .1) (c .before .before .before .before .if1 .left) _ _ _ (rw (c .before .before .before .before .before .try-line .ensures .0) at (c .before .before .taken .ensures e))
+
+pub turn-spec : {M : Type 1} → statement M
+turn-spec =
+    tie.close
+    (tie.spec is-open-requires try-line-requires returns taken-requires same-length returns-2)

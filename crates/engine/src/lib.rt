@@ -1,0 +1,170 @@
+// The engine: its state, the lent history, and the public calls.
+ghost use mathlib.Core.Path.{_≡_};
+ghost use Rattle.engine.specs.Engine.{freshEngine};
+ghost use Rattle.engine.specs.State.{encode, noSum};
+ghost use Rattle.engine.specs.Calls.{Answered, FetchAnswered, refusalNumber, hasLines};
+use answers::Answer;
+use circuit::Entry;
+
+mod gates;
+mod sums;
+mod turns;
+
+// A shorter answer buffer is refusal 1: no answer has more bytes.
+const LEAST_BUFFER: usize = 64;
+
+// A string for each colour, as numbers with position 1 the highest digit.
+pub struct Numbers {
+    pub red: u32,
+    pub blue: u32,
+    pub green: u32,
+}
+
+pub enum Kind {
+    Closed,
+    Amplitude,
+    Readout,
+}
+
+// The open sum: the slices worked, what exactly these add up to, and the table that they are read from.
+pub struct Sum {
+    pub kind: Kind,
+    pub worked: usize,
+    pub amplitude: i64,
+    pub count: u64,
+    pub table: [u64; 102],
+}
+
+pub struct State {
+    // 0 where there is no circuit yet.
+    pub m: usize,
+    // How many gates the history holds.
+    pub held: usize,
+    pub start: Numbers,
+    pub polynomial: [u32; 289],
+    pub sum: Sum,
+    // Can the lines of a listing be fetched?
+    pub listed: bool,
+}
+
+// What a line does: the state it leaves, and its answer.
+struct Turn {
+    state: State,
+    answer: Answer,
+}
+
+// What a call leaves: the state, how many bytes the answer has, and the number of the refusal, 0 for none.
+pub struct Reply {
+    pub state: State,
+    pub len: usize,
+    pub refusal: u8,
+}
+
+// What a fetch gives.
+pub struct Fetched {
+    pub len: usize,
+    pub refusal: u8,
+}
+
+fn no_sum() -> Sum
+    ensures { λ r. ⌜ r ≡ noSum ⌝ }
+{
+    Sum {
+        kind: Kind::Closed,
+        worked: 0,
+        amplitude: 0,
+        count: 0,
+        table: [0u64; 102],
+    }
+}
+
+// An engine with no circuit.
+pub fn fresh() -> State
+    ensures { λ r. ⌜ r ≡ encode freshEngine ⌝ }
+{
+    State {
+        m: 0,
+        held: 0,
+        start: Numbers {
+            red: 0,
+            blue: 0,
+            green: 0,
+        },
+        polynomial: circuit::polynomial::empty(),
+        sum: no_sum(),
+        listed: false,
+    }
+}
+
+fn refusal_number(answer: Answer) -> u8
+    ensures { λ r. ⌜ r ≡ refusalNumber answer ⌝ }
+{
+    if let Answer::Refused(e) = answer {
+        e
+    } else {
+        0
+    }
+}
+
+fn has_lines(answer: Answer) -> bool
+    ensures { λ r. ⌜ r ≡ hasLines answer ⌝ }
+{
+    if let Answer::Terms(_) = answer {
+        true
+    } else {
+        false
+    }
+}
+
+// A line, with the history and the answer buffer lent.
+pub fn line(state: State, history: &mut [u32], line: &[u8], buffer: &mut [u8]) -> Reply
+    ensures { λ r. ⌜ Answered state (now (history .entry)) (now (line .entry)) (now (buffer .entry)) r (now (history .exit)) (now (buffer .exit)) ⌝ }
+{
+    let mut unlisted = state;
+    unlisted.listed = false;
+    if line.len() == 0 {
+        return Reply {
+            state,
+            len: 0,
+            refusal: 0,
+        };
+    }
+    if buffer.len() < LEAST_BUFFER {
+        return Reply {
+            state: unlisted,
+            len: 0,
+            refusal: 1,
+        };
+    }
+    let turned = turns::turn(state, history, line);
+    let answer = turned.answer;
+    let len = answers::write(answer, buffer);
+    let mut after = turned.state;
+    after.listed = has_lines(answer);
+    Reply {
+        state: after,
+        len,
+        refusal: refusal_number(answer),
+    }
+}
+
+// A later line of the last answer, by its number.
+pub fn fetch(state: State, number: usize, buffer: &mut [u8]) -> Fetched
+    ensures { λ r. ⌜ FetchAnswered state number (now (buffer .entry)) r (now (buffer .exit)) ⌝ }
+{
+    if buffer.len() < LEAST_BUFFER {
+        return Fetched { len: 0, refusal: 1 };
+    }
+    if number == 0 {
+        return Fetched { len: 0, refusal: 0 };
+    }
+    if !state.listed {
+        return Fetched { len: 0, refusal: 0 };
+    }
+    let words = state.polynomial;
+    let Entry::Listed(gate) = circuit::listing::entry(words, number - 1) else {
+        return Fetched { len: 0, refusal: 0 };
+    };
+    let len = answers::write(Answer::Listed(gate), buffer);
+    Fetched { len, refusal: 0 }
+}

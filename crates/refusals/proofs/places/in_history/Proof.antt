@@ -1,0 +1,62 @@
+-- The free places are compared with the gates of the line, without a sum that could wrap.
+use Prim.Native.Nat.{_+_}
+use lib.ListN.{length}
+use mathlib.Core.Path.{sym, _∙_}
+use native.Mathlib.Omega.{arith}
+use borrow.Author.Tests.{lt-ltb, le-ltb}
+use Rattle.refusals.specs.Refusals.{orElse, refusedIf, lineGates, places, historyRefusal}
+use borrow.Author.Needs.{needs}
+use Rattle.refusals.proofs.places.in_history.Statement.{statement}
+use Rattle.refusals.proofs.places.in_history.Tie as tie
+
+undoes-more-requires : tie.Need-undoes-more-requires
+undoes-more-requires c κs = search needs
+
+returns : tie.Need-returns
+unfolding historyRefusal orElse refusedIf
+returns c = λ l h. rw (sym (c .before .undoes-more .ensures) ∙ c .if1 .taken)
+
+places-of-requires : tie.Need-places-of-requires
+places-of-requires c κs = search needs
+
+returns-2 : tie.Need-returns-2
+unfolding historyRefusal orElse refusedIf
+returns-2 c =
+    let a = c .before .before .before .before .args in
+    λ l h. rw (
+      sym (c .before .before .before .undoes-more .ensures) ∙ c .before .before .if1 .left,
+      lt-ltb (places (a .room)) (a .held + length (lineGates (a .form) l)) (omega (arith, c .before .places-of .ensures)),
+    )
+
+gate-count-requires : tie.Need-gate-count-requires
+gate-count-requires c κs = search needs
+
+returns-3 : tie.Need-returns-3
+unfolding historyRefusal orElse refusedIf
+returns-3 c =
+    let a = c .before .before .before .before .before .before .args in
+    λ l h. rw (
+      sym (c .before .before .before .before .before .undoes-more .ensures) ∙ c .before .before .before .before .if1 .left,
+      lt-ltb (places (a .room)) (a .held + length (lineGates (a .form) l)) (omega (arith, c .before .before .before .places-of .ensures, c .before .gate-count .ensures l h)),
+    )
+
+returns-4 : tie.Need-returns-4
+unfolding historyRefusal orElse refusedIf
+returns-4 c =
+    let a = c .before .before .before .before .before .before .args in
+    λ l h. rw (
+      sym (c .before .before .before .before .before .undoes-more .ensures) ∙ c .before .before .before .before .if1 .left,
+      le-ltb (places (a .room)) (a .held + length (lineGates (a .form) l)) (omega (arith, c .before .before .before .places-of .ensures, c .before .gate-count .ensures l h)),
+    )
+
+pub in-history-spec : {M : Type 1} → statement M
+in-history-spec =
+    tie.close
+    (tie.spec
+    undoes-more-requires
+    returns
+    places-of-requires
+    returns-2
+    gate-count-requires
+    returns-3
+    returns-4)

@@ -1,0 +1,91 @@
+-- The gates passed are checked; those to come are `gatesAt` of the place reached, as many as the form's count leaves.
+use Prim.Native.Nat.{_+_, _-_}
+use mathlib.Core.Path.{_≡_, ap, sym, _∙_}
+use mathlib.Core.Bool.{_&&_, _||_, and-true, and-assoc, or-false, or-assoc}
+use mathlib.Core.Logic.{⊎-elim}
+use native.Mathlib.Omega.{arith}
+use lib.ListN.{length}
+use denote.Ref.{now}
+use Rattle.lines.specs.Gates.{layerGates, gatesAt}
+use Rattle.refusals.specs.Refusals.{inRange, onItself, allInRange, anyOnItself}
+use Rattle.refusals.proofs.LayerSteps.{layer-size, from-start, next-gate, gate-found, none-left}
+use borrow.Author.Needs.{needs}
+use Rattle.refusals.proofs.places.layer_checked.Statement.{statement}
+use Rattle.refusals.proofs.places.layer_checked.Tie as tie
+
+abbrev Inv-loop : tie.InvT-loop
+Inv-loop m line n inside₀ itself₀ at₀ i₀ inside itself at i =
+    (i + length (gatesAt line at) ≡ n) ×
+    ((inside && allInRange m (gatesAt line at)) ≡ allInRange m (layerGates line)) ×
+    ((itself || anyOnItself (gatesAt line at)) ≡ anyOnItself (layerGates line))
+
+abbrev μ-loop : tie.MeasureT-loop
+μ-loop m line n inside₀ itself₀ at₀ i₀ inside itself at i = n - i
+
+loop-holds : tie.Need-loop-holds Inv-loop μ-loop
+loop-holds c =
+    let l = now (c .before .args .line) in
+    (omega (arith, ap length (from-start l), layer-size l _ (c .before .pre)), ap (allInRange _) (from-start l), ap anyOnItself (from-start l))
+
+layer-gate-requires : tie.Need-layer-gate-requires Inv-loop μ-loop
+layer-gate-requires c κs = search needs
+
+enum-known-gate : tie.Need-enum-known-gate Inv-loop μ-loop
+enum-known-gate c = search needs
+
+enum-told : tie.Need-enum-told Inv-loop μ-loop
+enum-told c = search needs
+
+returns : tie.Need-returns Inv-loop μ-loop
+returns c =
+    absurd
+    (gate-found _ _ _ _ (c .before .before .before .before .loop .inv .0) (c .before .before .before .loop-test .taken)
+    (sym (c .before .before .layer-gate .ensures) ∙ c .enum-told .given .1))
+
+gate-checked-requires : tie.Need-gate-checked-requires Inv-loop μ-loop
+gate-checked-requires c κs = search needs
+
+add-i : tie.Need-add-i Inv-loop μ-loop
+add-i c = search needs
+
+loop-less : tie.Need-loop-less Inv-loop μ-loop
+loop-less c = search needs
+
+loop-again : tie.Need-loop-again Inv-loop μ-loop
+unfolding allInRange anyOnItself
+loop-again c =
+    let start = c .before .before .before .before .before .before .before .before .before .before in
+    let loop = c .before .before .before .before .before .before .before .before .loop in
+    let gate = c .before .before .before .before .gate .given in
+    let read = sym (c .before .before .before .before .before .before .layer-gate .ensures) ∙ gate .1 in
+    let next = next-gate _ _ _ _ (loop .inv .0) _ _ (c .before .before .before .before .before .before .before .loop-test .taken) read in
+    let checked = c .before .before .gate-checked .ensures in
+    let inside : c .before .if1 .inside ≡ (loop .inside && inRange (start .args .m) (gate .0 .0)) =
+    ⊎-elim (λ w. rw (w .0 .taken) (w .1 ∙ checked .0)) (λ w. rw (w .0 .left) (w .1 ∙ w .0 .left)) (c .before .if1 .came) in
+    let itself : c .if2 .itself ≡ (loop .itself || onItself (gate .0 .0)) =
+    ⊎-elim (λ w. rw (w .0 .taken) (w .1 ∙ w .0 .taken)) (λ w. rw (w .0 .left) (w .1 ∙ checked .1)) (c .if2 .came) in
+    (omega (arith, ap length next), rw (inside, and-assoc) (rw next at (loop .inv .1)), rw (itself, or-assoc) (rw next at (loop .inv .2)))
+
+returns-2 : tie.Need-returns-2 Inv-loop μ-loop
+unfolding allInRange anyOnItself
+returns-2 c =
+    let inv = c .before .loop .inv in
+    let none = none-left _ _ _ _ (inv .0) (c .loop-test .left) in
+    (sym (and-true _) ∙ (rw none at (inv .1)), sym (or-false _) ∙ (rw none at (inv .2)))
+
+pub layer-checked-spec : {M : Type 1} → statement M
+layer-checked-spec =
+    tie.close
+    (tie.spec
+    Inv-loop
+    μ-loop
+    loop-holds
+    layer-gate-requires
+    enum-known-gate
+    enum-told
+    returns
+    gate-checked-requires
+    add-i
+    loop-less
+    loop-again
+    returns-2)

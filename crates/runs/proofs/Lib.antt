@@ -1,0 +1,8 @@
+pub mod Following
+pub mod Ending
+pub mod Counts
+pub mod Moments
+pub mod Steps
+pub mod Runs
+pub mod TypedStrings
+pub mod ByContract

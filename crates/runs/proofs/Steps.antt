@@ -1,0 +1,207 @@
+-- Steps reach the end: from an accepted `part` on the sum stays open, and has worked through the k of the accepted steps, until they reach
+-- 2^m or a `drop` is accepted. So the step that reaches it answers the readout count.
+use mathlib.Core.Path.{_≡_, refl, ap, sym, _∙_, subst}
+use mathlib.Core.Bool.{true, false, true≢false, false≢true}
+use mathlib.Core.List.{List, [], _∷_, _++_}
+use Prim.Native.Nat.{ℕ, suc, _+_, _*_, _^_, _≤_, _<_}
+use native.Mathlib.Nat.{zero-add, add-zero, add-assoc}
+use native.Mathlib.Omega.{arith}
+use Rattle.circuit.specs.declared.Colour.{Colour}
+use Rattle.text.specs.declared.Bits.{Bits}
+use Rattle.text.specs.Reading.{begins}
+use Rattle.text.proofs.Decimal.{never as impossible}
+use Rattle.lines.specs.declared.Form.{Form}
+use Rattle.lines.specs.declared.Form.the-variants as Form
+use Rattle.lines.specs.Forms.{formOf}
+use Rattle.answers.specs.declared.Answer.{Answer}
+use Rattle.answers.specs.declared.Answer.the-variants as Answer
+use Rattle.answers.specs.Answers.{bytesOf}
+use Rattle.engine.specs.Engine.{Circuit, Purpose, amplitude, readout, OpenSum, running, Loaded, present}
+use Rattle.engine.specs.Response.{isRunning, sumOpen, total}
+use Rattle.engine.proofs.Views.{View, refuses, passesBy, creates, adds, takesBack, starts, opensAmplitude, opensReadout, worksOn, finishes, drops, lists}
+use Rattle.engine.proofs.Passing.{or-none}
+use Rattle.engine.proofs.Outcomes.{Outcome, silent, spoken}
+use Rattle.runs.specs.Runs.{LineCall, FetchCall, Call, line, fetch, answerOf, Entered, holds, sameBytes, isOk, isLeft, isStepped, stepsOf, isDropped, stepsIn, dropsIn, Log, logged, IsReadout}
+use Rattle.runs.proofs.Following.{enteredOf, bookOf, holds-one}
+use Rattle.runs.proofs.Moments.{Moment, done, next}
+
+-- A readout of a circuit of m positions is open and has worked through w slices.
+data Working (m w : ℕ) : Loaded → Type 0 where
+  working : {c : Circuit} {o : OpenSum} → o .purpose ≡ readout → c .m ≡ m → o .worked ≡ w → Working m w (present c (running o))
+
+-- An answer that tells of no step adds nothing, whatever the line.
+steps-quiet : (f : Form) (a : List ℕ) → isStepped a ≡ false → stepsOf f a ≡ 0
+unfolding stepsOf
+steps-quiet (Form.Circuit m) a h = refl
+steps-quiet (Form.Ccz i j k) a h = refl
+steps-quiet (Form.Cz s t) a h = refl
+steps-quiet (Form.Cnot C c t) a h = refl
+steps-quiet (Form.Layer n) a h = refl
+steps-quiet (Form.Undo k) a h = refl
+steps-quiet (Form.Start r x g) a h = refl
+steps-quiet (Form.Amp C r x g) a h = refl
+steps-quiet (Form.Part C x y) a h = refl
+steps-quiet (Form.Step k) a h = rw h
+steps-quiet Form.Drop a h = refl
+steps-quiet Form.Terms a h = refl
+steps-quiet (Form.Refused e) a h = refl
+
+-- A total tells of a step.
+total-stepped : (m : ℕ) (o : OpenSum) (p : Purpose) → isStepped (bytesOf (total m o p)) ≡ true
+unfolding total bytesOf isStepped isLeft begins
+total-stepped m o amplitude = refl
+total-stepped m o readout = refl
+
+quiet-working : {m w : ℕ} {e : Loaded} (f : Form) (a : List ℕ) → isStepped a ≡ false → Working m w e → Working m (w + stepsOf f a) e
+quiet-working {m} {w} f a h k = rw (steps-quiet f a h, add-zero w) k
+
+working-open : {m w : ℕ} {e : Loaded} → Working m w e → sumOpen e ≡ true
+unfolding sumOpen isRunning
+working-open (working p q r) = refl
+
+-- ---- one line
+
+-- The sum is opened by an accepted `part`.
+begins-working :
+    {room : ℕ} {l : List ℕ} {e e' : Loaded} {f : Form} {a : Answer} (C : Colour) (x y : Bits) (b : Entered) → View room l e f e' a →
+    f ≡ Form.Part C x y → isLeft (bytesOf a) ≡ true → bookOf e ≡ holds b → Working (b .m) 0 e'
+unfolding bytesOf isLeft begins bookOf enteredOf
+begins-working C x y b refuses h k q = absurd (false≢true k)
+begins-working C x y b passesBy h _ _ = impossible (cc)
+begins-working C x y b (creates i low high) h _ _ = impossible (cc)
+begins-working C x y b (adds g r i w) h k q = absurd (false≢true k)
+begins-working C x y b takesBack h _ _ = impossible (cc)
+begins-working C x y b (starts r s t) h _ _ = impossible (cc)
+begins-working C x y b (opensAmplitude r s t) h _ _ = impossible (cc)
+begins-working C x y b (opensReadout s t) h k q = working refl (ap (λ (z : Entered). z .m) (holds-one q)) refl
+begins-working C x y b (worksOn w) h _ _ = impossible (cc)
+begins-working C x y b (finishes w) h _ _ = impossible (cc)
+begins-working C x y b drops h _ _ = impossible (cc)
+begins-working C x y b lists h _ _ = impossible (cc)
+
+-- A line leaves the sum open while its slices are not all worked.
+works-on :
+    {room m w : ℕ} {l : List ℕ} {e e' : Loaded} {f : Form} {a : Answer} → View room l e f e' a → Working m w e →
+    isDropped f (bytesOf a) ≡ false → w + stepsOf f (bytesOf a) < 2 ^ m → Working m (w + stepsOf f (bytesOf a)) e'
+unfolding bytesOf isOk sameBytes isStepped isLeft begins stepsOf isDropped sumOpen isRunning
+works-on {f = f} (refuses {n = n}) s d h = quiet-working f (bytesOf (Answer.Refused (suc n))) refl s
+works-on {w = w} passesBy s d h = rw (add-zero w) s
+works-on (creates i low high) s d h = absurd (false≢true (sym i ∙ working-open s))
+works-on (adds g r i n) s d h = absurd (false≢true (working-open s))
+works-on takesBack s d h = absurd (false≢true (working-open s))
+works-on (starts x y z) s d h = absurd (false≢true (working-open s))
+works-on (opensAmplitude x y z) s d h = absurd (false≢true (working-open s))
+works-on (opensReadout x y) s d h = absurd (false≢true (working-open s))
+works-on (worksOn {k = k} n) (working p q r) d h = working p q (ap (λ (v : ℕ). v + k) r)
+works-on (finishes {c = c} {o = o} {k = k} n) (working p q r) d h =
+    let i : o .worked + k < 2 ^ c .m = rw (total-stepped (c .m) o (o .purpose), sym q, sym r) at h in
+    absurd (omega arith)
+works-on drops s d h = absurd (true≢false d)
+works-on lists s d h = absurd (false≢true (working-open s))
+
+total-readout : (m : ℕ) (o : OpenSum) (p : Purpose) → p ≡ readout → IsReadout (bytesOf (total m o p))
+unfolding total
+total-readout m o amplitude h = impossible (cc)
+total-readout m o readout h = record { t = _; n = 3 * m; is = refl }
+
+-- The step that reaches the end answers the count.
+ends-working :
+    {room m w : ℕ} {l : List ℕ} {e e' : Loaded} {f : Form} {a : Answer} (k : ℕ) → View room l e f e' a → Working m w e → f ≡ Form.Step k →
+    isStepped (bytesOf a) ≡ true → 2 ^ m ≤ w + k → IsReadout (bytesOf a)
+unfolding bytesOf isStepped isLeft begins sumOpen isRunning
+ends-working k refuses s e d h = absurd (false≢true d)
+ends-working k passesBy _ e _ _ = impossible (cc)
+ends-working k (creates i low high) _ e _ _ = impossible (cc)
+ends-working k (adds g r i n) s e d h = absurd (false≢true (working-open s))
+ends-working k takesBack _ e _ _ = impossible (cc)
+ends-working k (starts x y z) _ e _ _ = impossible (cc)
+ends-working k (opensAmplitude x y z) _ e _ _ = impossible (cc)
+ends-working k (opensReadout x y) _ e _ _ = impossible (cc)
+ends-working k (worksOn {c = c} {o = o} {k = j} n) (working p q r) e d h =
+    let i : j ≡ k = cc in
+    let u : 2 ^ c .m ≤ o .worked + k = rw (q, r) h in
+    absurd (omega arith)
+ends-working k (finishes {c = c} {o = o} n) (working p q r) e d h = total-readout (c .m) o (o .purpose) p
+ends-working k drops _ e _ _ = impossible (cc)
+ends-working k lists _ e _ _ = impossible (cc)
+
+-- ---- calls
+
+-- A moment at which the sum is open.
+record Underway (m w : ℕ) (calls : List Call) : Type 0 where
+  log : Log
+  moment : Moment log calls
+  sum : Working m w (moment .engine .loaded)
+
+-- A call that is no accepted `drop`, and steps that do not reach the end.
+outcome-works :
+    {room m w : ℕ} {l : List ℕ} {e e' : Loaded} {a : List ℕ} → Outcome room l e e' a → Working m w e →
+    isDropped (formOf l) a ≡ false → w + stepsOf (formOf l) a < 2 ^ m → Working m (w + stepsOf (formOf l) a) e'
+unfolding isStepped isLeft begins
+outcome-works {l = l} silent s d h = quiet-working (formOf l) [] refl s
+outcome-works (spoken v) s d h = works-on v s d h
+
+call-works :
+    {m w : ℕ} (c : LineCall) (calls : List Call) → Underway m w (line c ∷ calls) → isDropped (formOf (c .line)) (answerOf c) ≡ false →
+    w + stepsOf (formOf (c .line)) (answerOf c) < 2 ^ m → Underway m (w + stepsOf (formOf (c .line)) (answerOf c)) calls
+unfolding next
+call-works c calls u d h =
+    record {
+      log = logged (u .log) (line c);
+      moment = next (u .log) (line c) calls (u .moment);
+      sum = outcome-works (done (u .log) c calls (u .moment) .outcome) (u .sum) d h;
+    }
+
+fetch-works : {m w : ℕ} (f : FetchCall) (calls : List Call) → Underway m w (fetch f ∷ calls) → Underway m w calls
+unfolding next
+fetch-works f calls u = record { log = logged (u .log) (fetch f); moment = next (u .log) (fetch f) calls (u .moment); sum = u .sum }
+
+fewer : (w k r p : ℕ) → w + (k + r) < p → w + k < p
+fewer w k r p h = omega arith
+
+calls-work :
+    {m w : ℕ} (between calls : List Call) → Underway m w (between ++ calls) → dropsIn between ≡ false → w + stepsIn between < 2 ^ m →
+    Underway m (w + stepsIn between) calls
+unfolding stepsIn dropsIn
+calls-work {w = w} [] calls u d h = rw (add-zero w) u
+calls-work {m} {w} (line c ∷ cs) calls u d h =
+    let k = stepsOf (formOf (c .line)) (answerOf c) in
+    let more : w + k + stepsIn cs ≡ w + (k + stepsIn cs) = add-assoc w k (stepsIn cs) in
+    let none = or-none (isDropped (formOf (c .line)) (answerOf c)) (dropsIn cs) d in
+    subst (λ (n : ℕ). Underway m n calls) more
+    (calls-work cs calls (call-works c (cs ++ calls) u (none .0) (fewer w k (stepsIn cs) (2 ^ m) h)) (none .1)
+    (subst (λ (n : ℕ). n < 2 ^ m) (sym more) h))
+calls-work (fetch f ∷ cs) calls u d h = calls-work cs calls (fetch-works f (cs ++ calls) u) d h
+
+outcome-begins :
+    {room : ℕ} {l : List ℕ} {e e' : Loaded} {a : List ℕ} (C : Colour) (x y : Bits) (b : Entered) → Outcome room l e e' a →
+    formOf l ≡ Form.Part C x y → isLeft a ≡ true → bookOf e ≡ holds b → Working (b .m) 0 e'
+unfolding isLeft begins
+outcome-begins C x y b silent h k q = absurd (false≢true k)
+outcome-begins C x y b (spoken v) h k q = begins-working C x y b v h k q
+
+outcome-ends :
+    {room m w : ℕ} {l : List ℕ} {e e' : Loaded} {a : List ℕ} (k : ℕ) → Outcome room l e e' a → Working m w e → formOf l ≡ Form.Step k →
+    isStepped a ≡ true → 2 ^ m ≤ w + k → IsReadout a
+unfolding isStepped isLeft begins
+outcome-ends k silent s e d h = absurd (false≢true d)
+outcome-ends k (spoken v) s e d h = ends-working k v s e d h
+
+-- From the moment of the `part` on.
+pub steps-end :
+    (g : Log) (p : LineCall) (between : List Call) (c : LineCall) (after : List Call) (C : Colour) (x y : Bits) (b : Entered) (k : ℕ) →
+    Moment g (line p ∷ (between ++ (line c ∷ after))) → formOf (p .line) ≡ Form.Part C x y → isLeft (answerOf p) ≡ true → g .book ≡ holds b →
+    dropsIn between ≡ false → stepsIn between < 2 ^ b .m → formOf (c .line) ≡ Form.Step k → isStepped (answerOf c) ≡ true →
+    2 ^ b .m ≤ stepsIn between + k → IsReadout (answerOf c)
+unfolding next
+steps-end g p between c after C x y b k m form left book none few step stepped all =
+    let rest = between ++ (line c ∷ after) in
+    let d = done g p rest m in
+    let opened : Underway (b .m) 0 rest =
+    record {
+      log = logged g (line p);
+      moment = next g (line p) rest m;
+      sum = outcome-begins C x y b (d .outcome) form left (sym (m .follows .book) ∙ book);
+    } in
+    let u = calls-work between (line c ∷ after) opened none (rw (zero-add (stepsIn between)) few) in
+    outcome-ends k (done (u .log) c after (u .moment) .outcome) (u .sum) step stepped (rw (zero-add (stepsIn between)) all)

@@ -1,0 +1,132 @@
+-- The strings of the book are the strings of the lines: a bit string of at most 16 digits is held exactly, and a line that is read as a
+-- `part` spells it with these strings.
+use mathlib.Core.Path.{_≡_, refl, ap, ap₂, sym, _∙_, subst}
+use mathlib.Core.Logic.{_⊎_, inl, inr}
+use mathlib.Core.Bool.{Bool, true, false, cond}
+use mathlib.Core.List.{List, [], _∷_}
+use Prim.Native.Nat.{ℕ, _+_, _*_, _/_, _^_, _≤_, _<_}
+use native.Mathlib.Nat.{lt-of-lt-of-le, zero-add, div-eq-of-lt, add-mul-div-right, mod-eq-of-lt, pow-suc}
+use native.Mathlib.Omega.{arith}
+use lib.ListN.{length}
+use lib.Dec.{ltb}
+use lib.Pow.{pow-pos, pow-mono}
+use Rattle.gf2.specs.Strings.{BitString}
+use Rattle.gf2.specs.Words.{bitOf, odd, highFirst}
+use Rattle.gf2.proofs.HighFirst.{highFirst-shift}
+use Rattle.circuit.specs.declared.Colour.{Colour}
+use Rattle.circuit.specs.declared.Gate.{Gate}
+use Rattle.circuit.specs.declared.Gate.the-variants as Gate
+use Rattle.text.specs.declared.Bits.{Bits}
+use Rattle.text.proofs.Decimal.{never as impossible}
+use Rattle.lines.specs.declared.Form.{Form}
+use Rattle.lines.specs.declared.Form.the-variants as Form
+use Rattle.lines.specs.Spelling.{Typed, circuit, gate, layer, undo, start, amp, part, step, drop, terms, spelled, colourTwice, anyColourTwice, twiceIn, heldGate, gateForm, held}
+use Rattle.lines.specs.Forms.{allAllowed, shapeOf, formOf}
+use Rattle.lines.proofs.FormReading.{readAs, Spelling, read-spelled, spelled-read}
+use Rattle.text.specs.Spelling.{numberFrom, numberOfBits}
+use Rattle.text.specs.Reading.{heldBits}
+use Rattle.runs.specs.Runs.{typed}
+
+-- The digits after a value: the value moves up, and they stand below it.
+number-after : (v : ℕ) (s : BitString) → numberFrom v s ≡ numberFrom 0 s + v * 2 ^ length s
+unfolding numberFrom
+number-after v [] = omega arith
+number-after v (b ∷ s) = rw (number-after (v * 2 + cond b 1 0) s, number-after (0 * 2 + cond b 1 0) s, pow-suc 2 (length s)) (omega arith)
+
+pub number-below : (s : BitString) → numberOfBits s < 2 ^ length s
+unfolding numberOfBits numberFrom
+number-below [] = omega arith
+number-below (b ∷ s) = rw (number-after (0 * 2 + cond b 1 0) s, pow-suc 2 (length s)) (go b (number-below s))
+  where
+    go : (b : Bool) → numberFrom 0 s < 2 ^ length s → numberFrom 0 s + (0 * 2 + cond b 1 0) * 2 ^ length s < 2 ^ length s * 2
+    go true h = omega arith
+    go false h = omega arith
+
+odd-one : odd 1 ≡ true
+unfolding odd bitOf
+odd-one = refl
+
+odd-nought : odd 0 ≡ false
+unfolding odd bitOf
+odd-nought = refl
+
+pub digits-back : (s : BitString) → highFirst (length s) (numberOfBits s) ≡ s
+unfolding highFirst numberOfBits numberFrom
+digits-back [] = refl
+digits-back (b ∷ s) =
+    ap₂ _∷_ (ap (λ (w : ℕ). odd (w / 2 ^ length s)) number ∙ first b)
+    (ap (highFirst (length s)) number ∙ highFirst-shift (length s) (numberFrom 0 s) (cond b 1 0) ∙ digits-back s)
+  where
+    number : numberFrom (0 * 2 + cond b 1 0) s ≡ numberFrom 0 s + cond b 1 0 * 2 ^ length s
+    number = number-after (0 * 2 + cond b 1 0) s ∙ ap (λ (d : ℕ). numberFrom 0 s + d * 2 ^ length s) (zero-add (cond b 1 0))
+
+    top : (d : ℕ) → (numberFrom 0 s + d * 2 ^ length s) / 2 ^ length s ≡ d
+    top d =
+        add-mul-div-right (numberFrom 0 s) d (pow-pos (length s))
+        ∙ ap (λ (n : ℕ). n + d) (div-eq-of-lt (number-below s))
+        ∙ zero-add d
+
+    first : (b : Bool) → odd ((numberFrom 0 s + cond b 1 0 * 2 ^ length s) / 2 ^ length s) ≡ b
+    first true = ap odd (top 1) ∙ odd-one
+    first false = ap odd (top 0) ∙ odd-nought
+
+-- A bit string of at most 16 digits is held exactly.
+pub typed-held : (s : BitString) → length s ≤ 16 → typed (heldBits s) ≡ s
+unfolding typed heldBits
+typed-held s h =
+    ap (highFirst (length s)) (mod-eq-of-lt (lt-of-lt-of-le (number-below s) (pow-mono h)))
+    ∙ digits-back s
+
+-- ---- the lines
+
+-- What is held of a string tells it, if the string is at most 16 long.
+from-held : (s : BitString) (x : Bits) → heldBits s ≡ x → x .len ≤ 16 → s ≡ typed x
+unfolding heldBits
+from-held s x e h = sym (typed-held s (subst (λ (n : ℕ). n ≤ 16) (sym (ap (λ (y : Bits). y .len) e)) h)) ∙ ap typed e
+
+module _ (l : List ℕ) (C : Colour) (x y : Bits) where
+  not-gate : (b : Bool) (g : Gate) → cond b (Form.Refused 5) (gateForm g) ≡ Form.Part C x y → ⊥
+  unfolding gateForm
+  not-gate true g h = impossible (cc)
+  not-gate false (Gate.Ccz i j k) h = impossible (cc)
+  not-gate false (Gate.Cz p q) h = impossible (cc)
+  not-gate false (Gate.Cnot D c t) h = impossible (cc)
+
+  not-layer : (b : Bool) (n : ℕ) → cond b (Form.Refused 5) (Form.Layer n) ≡ Form.Part C x y → ⊥
+  not-layer true n h = impossible (cc)
+  not-layer false n h = impossible (cc)
+
+  spelled-part :
+      (t : Typed) → readAs t ≡ Form.Part C x y → x .len ≤ 16 → y .len ≤ 16 → spelled t ≡ spelled (part C (typed x) (typed y))
+  unfolding twiceIn held
+  spelled-part (circuit m) h p q = impossible (cc)
+  spelled-part (gate g) h p q = absurd (not-gate (colourTwice g) (heldGate g) h)
+  spelled-part (layer gs) h p q = absurd (not-layer (anyColourTwice gs) (length gs) h)
+  spelled-part (undo k) h p q = impossible (cc)
+  spelled-part (start r b g) h p q = impossible (cc)
+  spelled-part (amp D r b g) h p q = impossible (cc)
+  spelled-part (part D u v) h p q =
+      let c : D ≡ C = cc in
+      let i : heldBits u ≡ x = cc in
+      let j : heldBits v ≡ y = cc in
+      rw (c, from-held u x i p, from-held v y j q)
+  spelled-part (step k) h p q = impossible (cc)
+  spelled-part drop h p q = impossible (cc)
+  spelled-part terms h p q = impossible (cc)
+
+  -- A line that is read as a `part` is "(part C X Y)" with the strings that the book notes.
+  pub part-line : formOf l ≡ Form.Part C x y → x .len ≤ 16 → y .len ≤ 16 → l ≡ spelled (part C (typed x) (typed y))
+  unfolding formOf
+  part-line h p q = whole (ltb 1024 (length l)) (allAllowed l) h
+    where
+      shape : (shapeOf l ≡ Form.Refused 4) ⊎ Spelling l → shapeOf l ≡ Form.Part C x y → l ≡ spelled (part C (typed x) (typed y))
+      shape (inl e) h = impossible (cc)
+      shape (inr s) h =
+          s .is ∙ spelled-part (s .typed) (sym (ap shapeOf (s .is) ∙ read-spelled (s .typed) (s .well)) ∙ h) p q
+
+      whole :
+          (a b : Bool) → cond a (Form.Refused 2) (cond b (shapeOf l) (Form.Refused 3)) ≡ Form.Part C x y →
+          l ≡ spelled (part C (typed x) (typed y))
+      whole true b h = impossible (cc)
+      whole false true h = shape (spelled-read l) h
+      whole false false h = impossible (cc)

@@ -1,0 +1,349 @@
+-- Runs, for demand 3 (document 01, "Runs"): a list of calls, the book that is kept of their lines and answers alone, and the claim.
+use mathlib.Core.Bool.{Bool, true, false, cond, _||_}
+use mathlib.Core.List.{List, [], _∷_, _++_}
+use mathlib.Core.Path.{_≡_}
+use Prim.Native.Nat.{ℕ, _+_, _-_, _*_, _^_, _≤_, _<_}
+use lib.Dec.{eqb}
+use lib.IntN.{ℤ, pos, _*ℤ_}
+use lib.ListN.{length, take}
+use Rattle.gf2.specs.Strings.{BitString}
+use Rattle.gf2.specs.Sums.{sum}
+use Rattle.gf2.specs.Words.{highFirst}
+use Rattle.circuit.specs.declared.Colour.{Colour}
+use Rattle.circuit.specs.declared.Gate.{Gate}
+use Rattle.circuit.specs.Colours.{join}
+use Rattle.circuit.specs.Sum.{Basis, signedSum}
+use Rattle.slices.specs.Rank.{tally}
+use Rattle.slices.specs.Totals.{withStart}
+use Rattle.text.specs.Spelling.{bytes}
+use Rattle.text.specs.Reading.{begins}
+use Rattle.text.specs.declared.Bits.{Bits}
+use Rattle.lines.specs.declared.Form.{Form}
+use Rattle.lines.specs.declared.Form.the-variants as Form
+use Rattle.lines.specs.Forms.{formOf}
+use Rattle.answers.specs.declared.Answer.{Answer}
+use Rattle.answers.specs.declared.Answer.the-variants as Answer
+use Rattle.answers.specs.Answers.{bytesOf}
+use Rattle.engine.specs.declared.State.{State}
+use Rattle.engine.specs.declared.Reply.{Reply}
+use Rattle.engine.specs.declared.Fetched.{Fetched}
+use Rattle.engine.specs.Engine.{freshEngine}
+use Rattle.refusals.specs.Refusals.{lineGates}
+use Rattle.engine.specs.State.{encode}
+use Rattle.engine.specs.Calls.{Answered, FetchAnswered}
+
+-- ---- "A run is a list of lines of any bytes, every form, refused and empty lines included, with fetches between, from a fresh engine (no
+-- circuit) on a lent history of any length, each call on an answer buffer of any length."
+
+pub record LineCall : Type 0 where
+  pub line : List ℕ
+  pub buffer : List ℕ
+  pub reply : Reply
+  pub history : List ℕ
+  pub written : List ℕ
+
+pub record FetchCall : Type 0 where
+  pub number : ℕ
+  pub buffer : List ℕ
+  pub fetched : Fetched
+  pub written : List ℕ
+
+pub data Call : Type 0 where
+  line : LineCall → Call
+  fetch : FetchCall → Call
+
+-- "Each call gets the state and history that the last one left": each keeps its promise on these.
+abbrev pub Kept : State → List ℕ → List Call → Type 0
+Kept s h [] = Unit {0}
+Kept s h (line c ∷ cs) =
+    Answered s h (c .line) (c .buffer) (c .reply) (c .history) (c .written) × Kept (c .reply .state) (c .history) cs
+Kept s h (fetch f ∷ cs) = FetchAnswered s (f .number) (f .buffer) (f .fetched) (f .written) × Kept s h cs
+
+abbrev pub Run : List ℕ → List Call → Type 0
+Run h cs = Kept (encode freshEngine) h cs
+
+-- ---- "An accepted circuit is what this book holds, fed only the lines and their answers"
+
+-- The answer: the bytes that the call says it wrote.
+unfoldable pub answerOf : LineCall → List ℕ
+answerOf c = take (c .reply .len) (c .written)
+
+-- The line that a fetch shows.
+unfoldable pub shownBy : FetchCall → List ℕ
+shownBy f = take (f .fetched .len) (f .written)
+
+-- A bit string as it was typed.
+unfoldable pub typed : Bits → BitString
+typed b = highFirst (b .len) (b .value)
+
+pub record Entered : Type 0 where
+  pub m : ℕ
+  pub gates : List Gate
+  pub start : Basis
+
+-- "At first there is none."
+pub data Book : Type 0 where
+  none : Book
+  holds : Entered → Book
+
+unfoldable pub zeros : ℕ → BitString
+zeros m = highFirst m 0
+
+unfoldable pub allZeros : ℕ → Basis
+allZeros m = record { red = zeros m; blue = zeros m; green = zeros m }
+
+unfoldable pub sameBytes : List ℕ → List ℕ → Bool
+sameBytes [] [] = true
+sameBytes [] (y ∷ ys) = false
+sameBytes (x ∷ xs) [] = false
+sameBytes (x ∷ xs) (y ∷ ys) = cond (eqb x y) (sameBytes xs ys) false
+
+-- "answered `(ok)`"
+unfoldable pub isOk : List ℕ → Bool
+isOk a = sameBytes a (bytes "(ok)")
+
+-- "`(circuit m)` answered `(ok)`: m, no gates, start all zeros."
+unfoldable pub entered : ℕ → Book
+entered m = holds (record { m = m; gates = []; start = allZeros m })
+
+-- "A gate line answered `(ok)` puts its gate at the end, a layer its gates from left to right."
+unfoldable pub addGates : List Gate → Book → Book
+addGates gs none = none
+addGates gs (holds b) = holds (record { m = b .m; gates = b .gates ++ gs; start = b .start })
+
+-- "`(undo k)` answered `(ok)` takes the last k off."
+unfoldable pub takeOff : ℕ → Book → Book
+takeOff k none = none
+takeOff k (holds b) = holds (record { m = b .m; gates = take (length (b .gates) - k) (b .gates); start = b .start })
+
+-- "`(start R B G)` answered `(ok)` sets the start."
+unfoldable pub setStart : Basis → Book → Book
+setStart s none = none
+setStart s (holds b) = holds (record { m = b .m; gates = b .gates; start = s })
+
+-- What a line that was answered `(ok)` does to the book.
+unfoldable pub enter : Form → List Gate → Book → Book
+enter (Form.Circuit m) gs b = entered m
+enter (Form.Ccz i j k) gs b = addGates gs b
+enter (Form.Cz p q) gs b = addGates gs b
+enter (Form.Cnot C c t) gs b = addGates gs b
+enter (Form.Layer n) gs b = addGates gs b
+enter (Form.Undo k) gs b = takeOff k b
+enter (Form.Start r x g) gs b = setStart (record { red = typed r; blue = typed x; green = typed g }) b
+enter (Form.Amp C r x g) gs b = b
+enter (Form.Part C x y) gs b = b
+enter (Form.Step k) gs b = b
+enter Form.Drop gs b = b
+enter Form.Terms gs b = b
+enter (Form.Refused e) gs b = b
+
+-- "Anything else, refused lines included, changes nothing."
+unfoldable pub fed : Book → List ℕ → List ℕ → Book
+fed b l a = cond (isOk a) (enter (formOf l) (lineGates (formOf l) l) b) b
+
+-- ---- "take the last line `(part C X Y)` before it that was answered `(left L)`, and the book as it stood there"
+
+pub record Part : Type 0 where
+  pub colour : Colour
+  pub x : BitString
+  pub y : BitString
+  pub book : Book
+
+pub data LastPart : Type 0 where
+  never : LastPart
+  last : Part → LastPart
+
+unfoldable pub isLeft : List ℕ → Bool
+isLeft a = begins (bytes "(left ") a
+
+unfoldable pub noted : Book → Form → List ℕ → LastPart → LastPart
+noted b (Form.Circuit m) a p = p
+noted b (Form.Ccz i j k) a p = p
+noted b (Form.Cz s t) a p = p
+noted b (Form.Cnot C c t) a p = p
+noted b (Form.Layer n) a p = p
+noted b (Form.Undo k) a p = p
+noted b (Form.Start r x g) a p = p
+noted b (Form.Amp C r x g) a p = p
+noted b (Form.Part C x y) a p = cond (isLeft a) (last (record { colour = C; x = typed x; y = typed y; book = b })) p
+noted b (Form.Step k) a p = p
+noted b Form.Drop a p = p
+noted b Form.Terms a p = p
+noted b (Form.Refused e) a p = p
+
+-- The same for `(amp C R B G)`: the output string, and the book as it stood.
+pub record Asked : Type 0 where
+  pub output : Basis
+  pub book : Book
+
+pub data LastAmp : Type 0 where
+  noAmp : LastAmp
+  lastAmp : Asked → LastAmp
+
+unfoldable pub notedAmp : Book → Form → List ℕ → LastAmp → LastAmp
+notedAmp b (Form.Circuit m) a p = p
+notedAmp b (Form.Ccz i j k) a p = p
+notedAmp b (Form.Cz s t) a p = p
+notedAmp b (Form.Cnot C c t) a p = p
+notedAmp b (Form.Layer n) a p = p
+notedAmp b (Form.Undo k) a p = p
+notedAmp b (Form.Start r x g) a p = p
+notedAmp b (Form.Amp C r x g) a p =
+    cond (isLeft a) (lastAmp (record { output = record { red = typed r; blue = typed x; green = typed g }; book = b })) p
+notedAmp b (Form.Part C x y) a p = p
+notedAmp b (Form.Step k) a p = p
+notedAmp b Form.Drop a p = p
+notedAmp b Form.Terms a p = p
+notedAmp b (Form.Refused e) a p = p
+
+pub record Log : Type 0 where
+  pub book : Book
+  pub part : LastPart
+  pub amp : LastAmp
+
+unfoldable pub emptyLog : Log
+emptyLog = record { book = none; part = never; amp = noAmp }
+
+unfoldable pub logged : Log → Call → Log
+logged g (line c) =
+    record {
+      book = fed (g .book) (c .line) (answerOf c);
+      part = noted (g .book) (formOf (c .line)) (answerOf c) (g .part);
+      amp = notedAmp (g .book) (formOf (c .line)) (answerOf c) (g .amp);
+    }
+logged g (fetch f) = g
+
+unfoldable pub logFrom : Log → List Call → Log
+logFrom g [] = g
+logFrom g (c ∷ cs) = logFrom (logged g c) cs
+
+-- The log of the calls so far.
+unfoldable pub logOf : List Call → Log
+logOf cs = logFrom emptyLog cs
+
+-- ---- "the k of the accepted steps after an accepted `part` .. with no accepted `drop` before that"
+
+-- An accepted step is answered by what is left, or by the total.
+unfoldable pub isStepped : List ℕ → Bool
+isStepped a = isLeft a || (begins (bytes "(part ") a || begins (bytes "(amp ") a)
+
+-- The k of a line that is an accepted step; any other line adds nothing.
+unfoldable pub stepsOf : Form → List ℕ → ℕ
+stepsOf (Form.Circuit m) a = 0
+stepsOf (Form.Ccz i j k) a = 0
+stepsOf (Form.Cz s t) a = 0
+stepsOf (Form.Cnot C c t) a = 0
+stepsOf (Form.Layer n) a = 0
+stepsOf (Form.Undo k) a = 0
+stepsOf (Form.Start r x g) a = 0
+stepsOf (Form.Amp C r x g) a = 0
+stepsOf (Form.Part C x y) a = 0
+stepsOf (Form.Step k) a = cond (isStepped a) k 0
+stepsOf Form.Drop a = 0
+stepsOf Form.Terms a = 0
+stepsOf (Form.Refused e) a = 0
+
+-- Is the line an accepted `drop`?
+unfoldable pub isDropped : Form → List ℕ → Bool
+isDropped (Form.Circuit m) a = false
+isDropped (Form.Ccz i j k) a = false
+isDropped (Form.Cz s t) a = false
+isDropped (Form.Cnot C c t) a = false
+isDropped (Form.Layer n) a = false
+isDropped (Form.Undo k) a = false
+isDropped (Form.Start r x g) a = false
+isDropped (Form.Amp C r x g) a = false
+isDropped (Form.Part C x y) a = false
+isDropped (Form.Step k) a = false
+isDropped Form.Drop a = isOk a
+isDropped Form.Terms a = false
+isDropped (Form.Refused e) a = false
+
+-- The k of the accepted steps among calls, added up.
+unfoldable pub stepsIn : List Call → ℕ
+stepsIn [] = 0
+stepsIn (line c ∷ cs) = stepsOf (formOf (c .line)) (answerOf c) + stepsIn cs
+stepsIn (fetch f ∷ cs) = stepsIn cs
+
+-- Is a `drop` accepted among calls?
+unfoldable pub dropsIn : List Call → Bool
+dropsIn [] = false
+dropsIn (line c ∷ cs) = isDropped (formOf (c .line)) (answerOf c) || dropsIn cs
+dropsIn (fetch f ∷ cs) = dropsIn cs
+
+-- ---- the claim
+
+unfoldable pub square : ℤ → ℤ
+square x = x *ℤ x
+
+-- "n = 3m and 2^(3m) times T equals the sum of S(s)^2 over the 2^m strings s with X and Y on the other two colours, S by the book's gates"
+pub record Exact (m : ℕ) (gates : List Gate) (C : Colour) (X Y : BitString) (t n : ℕ) : Type 0 where
+  pub exponent : n ≡ 3 * m
+  pub squares : pos (2 ^ (3 * m)) *ℤ pos t ≡ sum m (λ w. square (signedSum m gates (join C w X Y)))
+
+-- A call of the run that is answered `(part T n)`, with what was noted before it: the last accepted `part` was (part C X Y), and the book
+-- then held m, the gates, and a start of zeros.
+pub record Answers (calls : List Call) (m : ℕ) (gates : List Gate) (C : Colour) (X Y : BitString) (t n : ℕ) : Type 0 where
+  pub before : List Call
+  pub call : LineCall
+  pub after : List Call
+  pub place : calls ≡ before ++ (line call ∷ after)
+  pub answer : answerOf call ≡ bytesOf (Answer.Readout t n)
+  pub part : Part
+  pub latest : logOf before .part ≡ last part
+  pub colour : part .colour ≡ C
+  pub first : part .x ≡ X
+  pub second : part .y ≡ Y
+  pub book : part .book ≡ holds (record { m = m; gates = gates; start = allZeros m })
+
+-- Somebody opened the sum that is answered: a `(part T n)` never comes without an accepted `part` before it, and the book then held a circuit.
+pub record Opening (calls : List Call) : Type 0 where
+  pub part : Part
+  pub latest : logOf calls .part ≡ last part
+  pub entered : Entered
+  pub book : part .book ≡ holds entered
+
+pub record IsReadout (answer : List ℕ) : Type 0 where
+  pub t : ℕ
+  pub n : ℕ
+  pub is : answer ≡ bytesOf (Answer.Readout t n)
+
+-- The amplitude of the last accepted `amp`: the sum carried gate by gate over the gates that the book then held, at the output string with the
+-- starting ones added, whichever colour was sliced.
+pub record Amplitude (calls : List Call) (s : ℤ) (n : ℕ) : Type 0 where
+  pub asked : Asked
+  pub latest : logOf calls .amp ≡ lastAmp asked
+  pub entered : Entered
+  pub book : asked .book ≡ holds entered
+  pub exponent : n ≡ 3 * entered .m
+  pub sum : s ≡ signedSum (entered .m) (entered .gates) (withStart (entered .start) (asked .output))
+
+pub record SoundRun (calls : List Call) : Type 0 where
+  -- every `(part T n)` has an accepted `part` before it
+  pub opened :
+      (before : List Call) (c : LineCall) (after : List Call) (t n : ℕ) → calls ≡ before ++ (line c ∷ after) →
+      answerOf c ≡ bytesOf (Answer.Readout t n) → Opening before
+  -- and no fetch shows one
+  pub fetched :
+      (before : List Call) (f : FetchCall) (after : List Call) (t n : ℕ) → calls ≡ before ++ (fetch f ∷ after) →
+      shownBy f ≡ bytesOf (Answer.Readout t n) → ⊥
+  -- every readout count is exact
+  pub exact :
+      (m : ℕ) (gates : List Gate) (C : Colour) (X Y : BitString) (t n : ℕ) → Answers calls m gates C X Y t n → Exact m gates C X Y t n
+  -- the counts of all pairs add up to 2^(3m)
+  pub total :
+      (m : ℕ) (gates : List Gate) (C : Colour) (t n : BitString → BitString → ℕ) →
+      ((X Y : BitString) → length X ≡ m → length Y ≡ m → Answers calls m gates C X Y (t X Y) (n X Y)) →
+      tally m (λ X. tally m (λ Y. t X Y)) ≡ 2 ^ (3 * m)
+  -- "If the k of the accepted steps after an accepted `part` reach a total of 2^m or more, with no accepted `drop` before that, the step that
+  -- first reaches it is answered `(part T n)`." The `part` is p, the step is c, and b is what the book held at p.
+  pub ends :
+      (before : List Call) (p : LineCall) (between : List Call) (c : LineCall) (after : List Call) (C : Colour) (x y : Bits) (b : Entered)
+      (k : ℕ) → calls ≡ before ++ (line p ∷ (between ++ (line c ∷ after))) →
+      formOf (p .line) ≡ Form.Part C x y → isLeft (answerOf p) ≡ true → logOf before .book ≡ holds b →
+      dropsIn between ≡ false → stepsIn between < 2 ^ b .m →
+      formOf (c .line) ≡ Form.Step k → isStepped (answerOf c) ≡ true → 2 ^ b .m ≤ stepsIn between + k → IsReadout (answerOf c)
+  -- demand 2 at the call: every `(amp S n)` is the signed sum of the book's gates at the output string with the start added
+  pub amplitudes :
+      (before : List Call) (c : LineCall) (after : List Call) (s : ℤ) (n : ℕ) → calls ≡ before ++ (line c ∷ after) →
+      answerOf c ≡ bytesOf (Answer.Amplitude s n) → Amplitude before s n

@@ -1,0 +1,1 @@
+// No code: the theorem about runs of the engine stands in proofs/, over the definitions of specs/.

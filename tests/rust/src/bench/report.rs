@@ -1,0 +1,96 @@
+//! The tables that the benchmark prints.
+
+use crate::measure::median;
+use std::time::Duration;
+
+/// Samples of one m, each of the same number of slices.
+#[derive(Default)]
+pub struct Samples {
+    pub packed: Vec<Duration>,
+    pub plain: Vec<Duration>,
+    /// The program on the circuit alone, with amplitudes, and with readout counts.
+    pub circuit: Vec<Duration>,
+    pub amplitudes: Vec<Duration>,
+    pub counts: Vec<Duration>,
+}
+
+/// Medians for one m, in nanoseconds a slice.
+pub struct Figures {
+    m: usize,
+    packed: f64,
+    plain: f64,
+    session: Option<Session>,
+}
+
+/// The program's, less what it takes for the circuit.
+struct Session {
+    amplitude: f64,
+    count: f64,
+}
+
+impl Figures {
+    pub fn of(m: usize, samples: Samples, slices: usize) -> Figures {
+        let a_slice = |time: Duration| time.as_nanos() as f64 / slices as f64;
+        let session = (!samples.circuit.is_empty()).then(|| {
+            let circuit = median(samples.circuit);
+            let beyond = |times| a_slice(median(times).saturating_sub(circuit));
+            Session {
+                amplitude: beyond(samples.amplitudes),
+                count: beyond(samples.counts),
+            }
+        });
+        Figures {
+            m,
+            packed: a_slice(median(samples.packed)),
+            plain: a_slice(median(samples.plain)),
+            session,
+        }
+    }
+
+    /// Session / packed, session / plain, readout / amplitude.
+    fn ratios(&self) -> [Option<f64>; 3] {
+        match &self.session {
+            Some(Session { amplitude, count }) => {
+                [amplitude / self.packed, amplitude / self.plain, count / amplitude].map(Some)
+            }
+            None => [None; 3],
+        }
+    }
+
+    fn times(&self) -> [Option<f64>; 3] {
+        let session = self.session.as_ref().map(|session| session.amplitude);
+        [Some(self.packed), Some(self.plain), session]
+    }
+
+    /// Milliseconds for all slices of an amplitude.
+    fn an_amplitude(&self) -> [Option<f64>; 3] {
+        let slices = (1u64 << self.m) as f64;
+        self.times().map(|time| time.map(|time| time * slices / 1e6))
+    }
+}
+
+/// Cells of a table.
+fn cells(values: [Option<f64>; 3], places: usize) -> String {
+    let cell = |value: Option<f64>| value.map_or("-".to_string(), |value| format!("{value:.places$}"));
+    values.map(cell).join(" | ")
+}
+
+pub fn print(all: &[Figures]) {
+    println!("Nanoseconds a slice, and ratios.\n");
+    println!("| m | packed Rust | plain Rust | session | session / packed | session / plain | readout / amplitude |");
+    println!("|---|---|---|---|---|---|---|");
+    for figures in all {
+        let (times, ratios) = (cells(figures.times(), 1), cells(figures.ratios(), 2));
+        println!("| {} | {times} | {ratios} |", figures.m);
+    }
+    println!("\nMilliseconds an amplitude, and each beside that of two positions fewer.\n");
+    println!("| m | packed Rust | plain Rust | session | packed, growth | plain, growth | session, growth |");
+    println!("|---|---|---|---|---|---|---|");
+    let mut before = [None; 3];
+    for figures in all {
+        let now = figures.an_amplitude();
+        let growth = [0, 1, 2].map(|k| now[k].zip(before[k]).map(|(now, before): (f64, f64)| now / before));
+        println!("| {} | {} | {} |", figures.m, cells(now, 3), cells(growth, 2));
+        before = now;
+    }
+}

@@ -1,0 +1,132 @@
+//! Random circuits with all gates, layers, undos and starting strings, every colour sliced, against the full sum.
+
+use crate::Checks;
+use waitfield_checks::gates::{COLOURS, Gate, Strings, added, layer, spelled};
+use waitfield_checks::model::listing;
+use waitfield_checks::random::Random;
+use waitfield_checks::reference::FullSum;
+use waitfield_checks::script::Script;
+
+/// Circuits of each m for a seed.
+const CIRCUITS: usize = 60;
+
+/// Lines that an open sum turns back, with their refusals; none changes it.
+const BETWEEN: [(&str, &str); 12] = [
+    ("(ccz 1 1 1)", "(no 7)"),
+    ("(undo 1)", "(no 7)"),
+    ("(terms)", "(no 7)"),
+    ("(circuit 1)", "(no 7)"),
+    ("(start 1 1 1)", "(no 7)"),
+    ("(amp b 1 0 1)", "(no 7)"),
+    ("(part g 0 0)", "(no 7)"),
+    ("(layer (cnot r 1 1))", "(no 7)"),
+    ("(step 0)", "(no 9)"),
+    ("(step 65537)", "(no 9)"),
+    ("(step 1) ", "(no 4)"),
+    ("(DROP)", "(no 3)"),
+];
+
+/// A sum in steps of random sizes with refused and empty lines between them, up to the answer that ends it.
+pub fn sum(script: &mut Script, random: &mut Random, m: usize, line: String, answer: String) {
+    let mut left = 1 << m;
+    script.line(line, format!("(left {left})"));
+    loop {
+        if random.once_in(3) {
+            let (line, answer) = random.pick(&BETWEEN);
+            script.say(line, answer);
+        }
+        if random.once_in(8) {
+            script.empty_line();
+        }
+        let k = match random.below(4) {
+            0 => 1,
+            1 => left,
+            2 => 1 + random.below(2 * left),
+            _ => 1 + random.below(left),
+        };
+        if k >= left {
+            script.line(format!("(step {k})"), answer);
+            return;
+        }
+        left -= k;
+        script.line(format!("(step {k})"), format!("(left {left})"));
+    }
+}
+
+/// Lines that build a circuit, its gates and its starting string.
+fn build(script: &mut Script, random: &mut Random, m: usize) -> (Vec<Gate>, Strings) {
+    let mut gates = Vec::new();
+    let mut start = [0; 3];
+    script.line(format!("(circuit {m})"), "(ok)".to_string());
+    for _ in 0..random.below(16) {
+        match random.below(8) {
+            0..=3 => {
+                let gate = random.gate(m);
+                script.say(gate.to_string(), "(ok)");
+                gates.push(gate);
+            }
+            4 | 5 => {
+                let count = random.pick(&[1, 2, 3, 5, 8, 48]);
+                let several = random.gates(m, count);
+                script.say(layer(&several), "(ok)");
+                gates.extend(several);
+            }
+            6 => {
+                let k = 1 + random.below(gates.len() + 2);
+                let taken = k <= gates.len();
+                script.say(format!("(undo {k})"), if taken { "(ok)" } else { "(no 12)" });
+                gates.truncate(if taken { gates.len() - k } else { gates.len() });
+            }
+            _ => {
+                start = random.strings(m);
+                script.say(format!("(start {})", spelled(m, start)), "(ok)");
+            }
+        }
+    }
+    (gates, start)
+}
+
+fn circuit(script: &mut Script, random: &mut Random, m: usize) {
+    let (gates, start) = build(script, random, m);
+    let full = FullSum::of(m, &gates);
+    let terms = full.terms().expect("the reference's own checks say so");
+    script.line("(terms)", listing(&terms));
+    for number in 0..4 {
+        let output = if number == 0 { start } else { random.strings(m) };
+        let s = full.amplitude(added(output, start));
+        for colour in COLOURS {
+            let line = format!("(amp {colour} {})", spelled(m, output));
+            sum(script, random, m, line, format!("(amp {s} {})", 3 * m));
+        }
+    }
+}
+
+/// Every output string of one position a colour.
+fn smallest(script: &mut Script, random: &mut Random) {
+    let (gates, start) = build(script, random, 1);
+    let full = FullSum::of(1, &gates);
+    for string in 0..8 {
+        let output = [string & 1, string >> 1 & 1, string >> 2];
+        let s = full.amplitude(added(output, start));
+        for colour in COLOURS {
+            let line = format!("(amp {colour} {})", spelled(1, output));
+            sum(script, random, 1, line, format!("(amp {s} 3)"));
+        }
+    }
+}
+
+pub fn check(checks: &mut Checks) {
+    for seed in checks.seeds.clone() {
+        let mut random = Random::new(seed);
+        let mut script = Script::default();
+        for number in 0..CIRCUITS {
+            script.case(format!("all strings, seed {seed}, m = 1, circuit {number}"));
+            smallest(&mut script, &mut random);
+            for m in 1..=4 {
+                script.case(format!("random circuit, seed {seed}, m = {m}, circuit {number}"));
+                circuit(&mut script, &mut random, m);
+            }
+        }
+        checks.run(&script);
+    }
+}

@@ -1,0 +1,57 @@
+//! The worked examples of the folder examples/: NAME.in and the expected output NAME.out.
+
+use crate::Checks;
+use std::fs;
+use std::path::PathBuf;
+use waitfield_checks::model::Model;
+use waitfield_checks::program::repository;
+use waitfield_checks::script::answers;
+use waitfield_checks::worked;
+
+/// The inputs in the folder, by name.
+fn inputs() -> Result<Vec<PathBuf>, String> {
+    let folder = repository().join("examples");
+    let entries = fs::read_dir(&folder).map_err(|error| format!("{}: {error}", folder.display()))?;
+    let paths = entries.filter_map(|entry| Some(entry.ok()?.path()));
+    let mut inputs: Vec<PathBuf> = paths
+        .filter(|path| path.extension().is_some_and(|e| e == "in"))
+        .collect();
+    inputs.sort();
+    Ok(inputs)
+}
+
+pub fn check(checks: &mut Checks) {
+    let inputs = match inputs() {
+        Ok(inputs) => inputs,
+        Err(error) => return checks.tally.check("examples", Err(error)),
+    };
+    checks
+        .tally
+        .equal("examples in the folder", inputs.len(), worked::NAMES.len());
+    for path in inputs {
+        let name = path.display().to_string();
+        let read = |path: &PathBuf| fs::read(path).map_err(|error| format!("{}: {error}", path.display()));
+        let files = (read(&path), read(&path.with_extension("out")));
+        let (input, expected) = match files {
+            (Ok(input), Ok(expected)) => (input, expected),
+            (Err(error), _) | (_, Err(error)) => {
+                checks.tally.check(&name, Err(error));
+                continue;
+            }
+        };
+        let expected = answers(&expected);
+        let model = (Model::session(&input), Vec::new());
+        checks
+            .tally
+            .equal(&format!("{name}: the model"), model, expected.clone());
+        let found = checks.program.run(&input).map(|output| answers(&output));
+        checks.tally.equal(&name, found, Ok(expected));
+    }
+    for (name, text) in worked::generated() {
+        let path = repository().join("examples").join(name).with_extension("in");
+        let held = fs::read_to_string(path).unwrap_or_default();
+        checks
+            .tally
+            .equal(&format!("{name}.in is what its generator writes"), held, text);
+    }
+}

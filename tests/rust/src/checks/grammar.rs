@@ -1,0 +1,214 @@
+//! Random lines, most of them right and some with a mistake, against the model.
+
+use crate::Checks;
+use waitfield_checks::gates::{digits, layer};
+use waitfield_checks::model::{HISTORY, Model};
+use waitfield_checks::random::Random;
+use waitfield_checks::script::Script;
+
+/// Lines for a seed, and how many of them make one check.
+const LINES: usize = 6000;
+const IN_A_CHECK: usize = 50;
+
+/// Random lines for a circuit of m positions. One that fills the history gives no new circuit and takes little back.
+struct Writer {
+    random: Random,
+    m: usize,
+    fills: bool,
+}
+
+impl Writer {
+    /// A number from 1 to `most`, or one with a mistake.
+    fn number(&mut self, most: usize) -> String {
+        match self.random.below(60) {
+            0 => "0".into(),
+            1 => (most + 1).to_string(),
+            2 => format!("0{}", self.random.below(10)),
+            3 => "9".repeat(self.random.pick(&[3, 20, 40, 300, 1100])),
+            4 => self.random.pick(&["r", "a1", "1a", "()", ""]).into(),
+            _ => (1 + self.random.below(most)).to_string(),
+        }
+    }
+
+    fn bits(&mut self) -> String {
+        let bits = digits(self.m, self.random.string(self.m));
+        match self.random.below(60) {
+            0 => format!("{bits}0"),
+            1 => bits[1..].into(),
+            2 => bits.replace('0', "2"),
+            3 => "01".repeat(self.random.pick(&[10, 100, 600])),
+            _ => bits,
+        }
+    }
+
+    fn colour(&mut self) -> String {
+        match self.random.below(80) {
+            0 => self.random.pick(&["x", "rb", "0", "red"]).into(),
+            _ => self.random.colour().to_string(),
+        }
+    }
+
+    fn gate(&mut self) -> String {
+        let m = self.m;
+        match self.random.below(6) {
+            0 | 1 => format!("(ccz {} {} {})", self.number(m), self.number(m), self.number(m)),
+            2 | 3 if self.random.once_in(6) => {
+                format!(
+                    "(cz ({} {}) ({} {}))",
+                    self.colour(),
+                    self.number(m),
+                    self.colour(),
+                    self.number(m)
+                )
+            }
+            2 | 3 => self.random.cz(m).to_string(),
+            _ if m > 1 && !self.random.once_in(10) => self.random.cnot(m).to_string(),
+            _ => format!("(cnot {} {} {})", self.colour(), self.number(m), self.number(m)),
+        }
+    }
+
+    fn layer(&mut self) -> String {
+        let count = self.random.pick(&[0, 1, 2, 3, 4, 5, 6, 20, 48, 49]);
+        if count > 6 {
+            return layer(&self.random.gates(self.m, count));
+        }
+        let gates: Vec<String> = (0..count).map(|_| format!(" {}", self.gate())).collect();
+        format!("(layer{})", gates.concat())
+    }
+
+    /// Small circuits mostly, since the model takes its time for the others.
+    fn circuit(&mut self) -> String {
+        let most = self.random.pick(&[4, 4, 4, 4, 4, 4, 4, 8, 8, 16]);
+        format!("(circuit {})", self.number(most))
+    }
+
+    fn step(&mut self) -> String {
+        let most = self.random.pick(&[1, 1 << self.m, 1 << (self.m + 1), 65536]);
+        format!("(step {})", self.number(most))
+    }
+
+    fn form(&mut self, sum_is_open: bool) -> String {
+        if sum_is_open && !self.random.once_in(3) {
+            return if self.random.once_in(6) {
+                "(drop)".into()
+            } else {
+                self.step()
+            };
+        }
+        match self.random.below(40) {
+            0 | 17 if self.fills => self.layer(),
+            0 => self.circuit(),
+            1 => "(drop)".into(),
+            2 => self.step(),
+            3..=5 => "(terms)".into(),
+            6 | 7 => format!("(start {} {} {})", self.bits(), self.bits(), self.bits()),
+            8..=12 => format!(
+                "(amp {} {} {} {})",
+                self.colour(),
+                self.bits(),
+                self.bits(),
+                self.bits()
+            ),
+            13..=16 => format!("(part {} {} {})", self.colour(), self.bits(), self.bits()),
+            17 => format!("(undo {})", self.number(HISTORY)),
+            18..=21 => format!("(undo {})", self.number(4)),
+            22..=25 => self.layer(),
+            _ => self.gate(),
+        }
+    }
+
+    /// A byte of the line cut, doubled, put in or replaced.
+    fn damaged(&mut self, line: String) -> Vec<u8> {
+        let mut bytes = line.into_bytes();
+        let place = self.random.below(bytes.len());
+        let other = self.random.pick(b"() 0129rbgacz\0\r\t-AZ\xff\x80\n");
+        match self.random.below(4) {
+            0 => drop(bytes.remove(place)),
+            1 => bytes.insert(place, bytes[place]),
+            2 => bytes.insert(place, other),
+            _ => bytes[place] = other,
+        }
+        bytes
+    }
+
+    fn line(&mut self, model: &Model) -> Vec<u8> {
+        self.m = model.circuit().map_or(2, |circuit| circuit.m);
+        let form = self.form(model.sum_is_open());
+        let mut line = match self.random.below(25) {
+            0 => self.damaged(form),
+            1 => Vec::new(),
+            _ => form.into_bytes(),
+        };
+        line.push(b'\n');
+        line
+    }
+}
+
+fn lines(script: &mut Script, model: &mut Model, writer: &mut Writer, name: &str, count: usize) {
+    for number in 0..count {
+        if number % IN_A_CHECK == 0 {
+            script.case(format!("{name}, lines from {number} on"));
+        }
+        let line = writer.line(model);
+        script.bytes(model, &line);
+    }
+}
+
+/// The lines themselves: they must have met every kind of answer often enough to mean something.
+fn covered(checks: &mut Checks, script: &Script, name: &str, answers: &[&str]) {
+    for answer in answers {
+        let count = script.expected(answer);
+        let outcome = if count >= 5 {
+            Ok(())
+        } else {
+            Err(format!("expected {count} times only"))
+        };
+        checks.tally.check(&format!("{name}: {answer} is met"), outcome);
+    }
+}
+
+const MET: [&str; 16] = [
+    "(ok)", "(left ", "(amp ", "(amp -", "(part ", "(terms ", "(no 2)", "(no 3)", "(no 4)", "(no 5)", "(no 7)",
+    "(no 8)", "(no 9)", "(no 10)", "(no 11)", "(no 12)",
+];
+
+fn any_lines(checks: &mut Checks, writer: &mut Writer, seed: u64) {
+    let name = format!("random lines, seed {seed}");
+    let (mut script, mut model) = (Script::default(), Model::default());
+    lines(&mut script, &mut model, writer, &name, LINES);
+    checks.run(&script);
+    covered(checks, &script, &name, &MET);
+}
+
+/// Lines on a history that is filled up again and again.
+fn lines_on_full_history(checks: &mut Checks, writer: &mut Writer, seed: u64) {
+    let name = format!("random lines on a full history, seed {seed}");
+    let (mut script, mut model) = (Script::default(), Model::default());
+    script.case(format!("{name}: circuit"));
+    script.bytes(&mut model, b"(circuit 2)\n");
+    for part in 1..=5 {
+        let name = format!("{name}, part {part}");
+        script.case(format!("{name}: filled up"));
+        script.bytes(&mut model, b"(drop)\n");
+        let held = model.circuit().map_or(0, |circuit| circuit.gates.len());
+        for several in writer.random.gates(2, HISTORY - held).chunks(48) {
+            script.bytes(&mut model, format!("{}\n", layer(several)).as_bytes());
+        }
+        lines(&mut script, &mut model, writer, &name, 100);
+    }
+    checks.run(&script);
+    covered(checks, &script, &name, &["(no 13)"]);
+}
+
+pub fn check(checks: &mut Checks) {
+    for seed in checks.seeds.clone() {
+        let mut writer = Writer {
+            random: Random::new(seed),
+            m: 2,
+            fills: false,
+        };
+        any_lines(checks, &mut writer, seed);
+        writer.fills = true;
+        lines_on_full_history(checks, &mut writer, seed);
+    }
+}

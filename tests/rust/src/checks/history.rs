@@ -1,0 +1,124 @@
+//! The history of 4,096 gates: filled, overfull, taken back and used again.
+
+use crate::Checks;
+use waitfield_checks::elimination::Polynomial;
+use waitfield_checks::gates::{Gate, layer, spelled};
+use waitfield_checks::model::{HISTORY, listing};
+use waitfield_checks::random::Random;
+use waitfield_checks::reference::FullSum;
+use waitfield_checks::script::Script;
+
+/// Gates in layers of at most 48.
+pub fn in_layers(script: &mut Script, gates: &[Gate]) {
+    gates.chunks(48).for_each(|several| script.say(layer(several), "(ok)"));
+}
+
+/// Terms and an amplitude, by the full sum.
+fn seen(script: &mut Script, random: &mut Random, m: usize, gates: &[Gate]) {
+    let full = FullSum::of(m, gates);
+    let terms = full.terms().expect("the reference's own checks say so");
+    script.line("(terms)", listing(&terms));
+    let (colour, output) = (random.colour(), random.strings(m));
+    let s = full.amplitude(output);
+    script.line(
+        format!("(amp {colour} {})", spelled(m, output)),
+        format!("(left {})", 1 << m),
+    );
+    script.line("(step 65536)", format!("(amp {s} {})", 3 * m));
+}
+
+fn overfull(script: &mut Script, random: &mut Random, m: usize) {
+    let gate = random.gate(m).to_string();
+    for line in [&gate, "(ccz 1 1 1)", "(cz (g 1) (r 2))", "(cnot b 2 1)"] {
+        script.say(line, "(no 13)");
+    }
+    for count in [1, 2, 48] {
+        script.say(layer(&random.gates(m, count)), "(no 13)");
+    }
+    script.say(layer(&random.gates(m, 49)), "(no 9)");
+}
+
+fn filled_and_taken_back(script: &mut Script, random: &mut Random, m: usize) {
+    let gates = random.gates(m, HISTORY);
+    script.case(format!("4,096 gates taken, m = {m}"));
+    script.line(format!("(circuit {m})"), "(ok)".to_string());
+    in_layers(script, &gates[..2000]);
+    gates[2000..4000]
+        .iter()
+        .for_each(|gate| script.say(gate.to_string(), "(ok)"));
+    in_layers(script, &gates[4000..]);
+    seen(script, random, m, &gates);
+    script.case(format!("the 4,097th gate refused, m = {m}"));
+    overfull(script, random, m);
+    seen(script, random, m, &gates);
+    script.case(format!("room for three gates, m = {m}"));
+    script.say("(undo 3)", "(ok)");
+    script.say(layer(&random.gates(m, 4)), "(no 13)");
+    seen(script, random, m, &gates[..4093]);
+    let others = random.gates(m, 3);
+    script.say(layer(&others), "(ok)");
+    overfull(script, random, m);
+    seen(script, random, m, &[&gates[..4093], &others[..]].concat());
+    let mut held = HISTORY;
+    for fewer in [4093, 4000, 1025, 1024, 1, 0] {
+        script.case(format!("taken back to {fewer} gates, m = {m}"));
+        script.say(format!("(undo {})", held - fewer), "(ok)");
+        script.say(format!("(undo {})", fewer + 1), "(no 12)");
+        seen(script, random, m, &gates[..fewer]);
+        held = fewer;
+    }
+}
+
+/// All 4,096 gates at once, then the room used again, and a new circuit with an empty history.
+fn used_again(script: &mut Script, random: &mut Random, m: usize) {
+    script.case(format!("4,096 gates taken back at once, m = {m}"));
+    script.line(format!("(circuit {m})"), "(ok)".to_string());
+    in_layers(script, &random.gates(m, HISTORY));
+    script.say("(undo 4097)", "(no 9)");
+    script.say("(undo 4096)", "(ok)");
+    script.say("(undo 1)", "(no 12)");
+    script.say("(undo 4096)", "(no 12)");
+    seen(script, random, m, &[]);
+    script.case(format!("room given back used again, m = {m}"));
+    let gates = random.gates(m, HISTORY);
+    in_layers(script, &gates);
+    overfull(script, random, m);
+    seen(script, random, m, &gates);
+    script.case(format!("a new circuit has an empty history, m = {m}"));
+    script.line(format!("(circuit {m})"), "(ok)".to_string());
+    script.say("(undo 1)", "(no 12)");
+    in_layers(script, &gates);
+    script.say("(ccz 1 1 1)", "(no 13)");
+    seen(script, random, m, &gates);
+}
+
+/// The largest circuit: its terms after 4,096 gates and after most of them are taken back, by the elimination's polynomial.
+fn largest(script: &mut Script, random: &mut Random) {
+    let m = 16;
+    let gates = random.gates(m, HISTORY);
+    script.case("4,096 gates taken, m = 16");
+    script.say("(circuit 16)", "(ok)");
+    in_layers(script, &gates);
+    script.line("(terms)", listing(&Polynomial::of(m, &gates).terms()));
+    script.say("(ccz 16 16 16)", "(no 13)");
+    let mut held = HISTORY;
+    for fewer in [3000, 500, 100, 20, 0] {
+        script.case(format!("taken back to {fewer} gates, m = 16"));
+        script.say(format!("(undo {})", held - fewer), "(ok)");
+        script.line("(terms)", listing(&Polynomial::of(m, &gates[..fewer]).terms()));
+        held = fewer;
+    }
+}
+
+pub fn check(checks: &mut Checks) {
+    for seed in checks.seeds.clone() {
+        let mut random = Random::new(seed);
+        let mut script = Script::default();
+        for m in 2..=3 {
+            filled_and_taken_back(&mut script, &mut random, m);
+            used_again(&mut script, &mut random, m);
+        }
+        largest(&mut script, &mut random);
+        checks.run(&script);
+    }
+}

@@ -1,0 +1,131 @@
+//! The worked listing, the known sums and the edges, as document 01 gives them.
+
+use crate::Checks;
+use waitfield_checks::gates::Colour::{Blue, Red};
+use waitfield_checks::gates::{COLOURS, Gate, cz, layer};
+use waitfield_checks::model::listing;
+use waitfield_checks::script::Script;
+
+pub const LISTING: [(&str, &str); 9] = [
+    ("(circuit 1)", "(ok)"),
+    ("(ccz 1 1 1)", "(ok)"),
+    ("(amp r 1 1 0)", "(left 2)"),
+    ("(step 1)", "(left 1)"),
+    ("(ccz 1 1 1)", "(no 7)"),
+    ("(step 5)", "(amp -2 3)"),
+    ("(undo 1)", "(ok)"),
+    ("(terms)", "(terms 0)"),
+    ("(cz (g 1) (g 1))", "(no 5)"),
+];
+
+pub struct Known {
+    pub m: usize,
+    pub gates: Vec<Gate>,
+    /// Output strings and their S.
+    pub sums: &'static [(&'static str, i64)],
+}
+
+const CCZ: Gate = Gate::Ccz {
+    red: 1,
+    blue: 1,
+    green: 1,
+};
+
+const CNOT: Gate = Gate::Cnot {
+    colour: Red,
+    control: 2,
+    target: 1,
+};
+
+pub fn known_sums() -> Vec<Known> {
+    let known = |m, gates: &[Gate], sums| Known {
+        m,
+        gates: gates.to_vec(),
+        sums,
+    };
+    vec![
+        known(1, &[], &[("0 0 0", 8), ("1 0 0", 0)]),
+        known(1, &[CCZ], &[("0 0 0", 6), ("1 0 0", 2), ("1 1 0", -2), ("1 1 1", 2)]),
+        known(1, &[CCZ, CCZ], &[("0 0 0", 8)]),
+        known(1, &[cz(Red, 1, Blue, 1)], &[("0 0 0", 4), ("1 1 0", -4), ("0 0 1", 0)]),
+        known(2, &[CCZ, CNOT], &[("00 00 00", 48), ("11 00 00", 16), ("10 00 00", 0)]),
+        known(2, &[CNOT, CCZ], &[("10 00 00", 16), ("11 00 00", 0)]),
+    ]
+}
+
+/// Readout counts for m = 1 and one CCZ, red unread.
+const COUNTS: [(&str, u64); 4] = [("0 0", 5), ("0 1", 1), ("1 0", 1), ("1 1", 1)];
+
+fn sums(checks: &mut Checks) {
+    let mut script = Script::default();
+    for Known { m, gates, sums } in known_sums() {
+        for &(output, s) in sums {
+            for colour in COLOURS {
+                script.case(format!("S at {output} after {gates:?}, sliced on {colour}"));
+                script.say(format!("(circuit {m})"), "(ok)");
+                gates.iter().for_each(|gate| script.say(gate.to_string(), "(ok)"));
+                script.line(format!("(amp {colour} {output})"), format!("(left {})", 1 << m));
+                script.line("(step 65536)", format!("(amp {s} {})", 3 * m));
+            }
+        }
+    }
+    for (read, count) in COUNTS {
+        script.case(format!("T at {read} after a CCZ, red unread"));
+        script.say("(circuit 1)", "(ok)");
+        script.say("(ccz 1 1 1)", "(ok)");
+        script.say(format!("(part r {read})"), "(left 2)");
+        script.line("(step 2)", format!("(part {count} 3)"));
+    }
+    script.case("two terms after a CCZ and a CNOT");
+    script.say("(circuit 2)", "(ok)");
+    script.say("(ccz 1 1 1)", "(ok)");
+    script.say("(cnot r 2 1)", "(ok)");
+    let other = Gate::Ccz {
+        red: 2,
+        blue: 1,
+        green: 1,
+    };
+    script.line("(terms)", listing(&[CCZ, other]));
+    checks.run(&script);
+}
+
+/// A line of the given length that has a form: `(circuit 1..)` with as many digits as it takes.
+pub fn long_circuit(length: usize) -> String {
+    format!("(circuit {})", "1".repeat(length - "(circuit )".len()))
+}
+
+fn edges(checks: &mut Checks) {
+    let mut script = Script::default();
+    let mut edge = |line: String, answer: &str| {
+        script.case(format!("{answer} to {} bytes: {line:.40}", line.len()));
+        script.say(line, answer);
+    };
+    for m in 1..=16 {
+        edge(format!("(circuit {m})"), "(ok)");
+    }
+    edge("(circuit 17)".into(), "(no 9)");
+    edge("(circuit 0)".into(), "(no 9)");
+    edge(long_circuit(1023), "(no 9)");
+    edge(long_circuit(1024), "(no 9)");
+    edge(long_circuit(1025), "(no 2)");
+    let farthest = cz(Red, 16, Blue, 16);
+    for count in [1, 2, 47, 48] {
+        edge(layer(&vec![farthest; count]), "(ok)");
+        edge(layer(&vec![CNOT; count]), "(ok)");
+    }
+    edge(layer(&vec![CCZ; 49]), "(no 9)");
+    edge("(layer)".into(), "(no 9)");
+    // Twice 98 gates are held, no more.
+    edge("(undo 197)".into(), "(no 12)");
+    edge("(undo 196)".into(), "(ok)");
+    checks.run(&script);
+}
+
+pub fn check(checks: &mut Checks) {
+    let mut script = Script::default();
+    script.case("the worked listing");
+    LISTING.iter().for_each(|(line, answer)| script.say(line, answer));
+    checks.run(&script);
+    sums(checks);
+    edges(checks);
+}

@@ -1,0 +1,120 @@
+//! Every refusal at its edges, and every pair of refusals that can meet in one line. Refused lines change nothing, so all
+//! lines of a moment go to one process, and the last lines show that circuit, history, start and sum are as before.
+
+mod forms;
+mod operands;
+mod pairs;
+
+use crate::Checks;
+use crate::history::in_layers;
+use waitfield_checks::gates::Gate;
+use waitfield_checks::model::{HISTORY, Model, listing};
+use waitfield_checks::script::Script;
+
+/// What has gone before a line.
+#[derive(Clone, Copy, PartialEq, Debug)]
+pub enum Moment {
+    /// No circuit.
+    Fresh,
+    /// Two positions a colour, one gate.
+    Held,
+    /// The same with a sum open.
+    Open,
+    /// Two positions a colour and 4,096 gates.
+    Full,
+    /// The same with a sum open.
+    FullOpen,
+}
+
+use Moment::{Fresh, Full, FullOpen, Held, Open};
+
+const MOMENTS: [Moment; 5] = [Fresh, Held, Open, Full, FullOpen];
+
+/// The gate that is held.
+const GATE: Gate = Gate::Ccz {
+    red: 1,
+    blue: 2,
+    green: 1,
+};
+
+fn begin(script: &mut Script, moment: Moment) {
+    script.case(format!("{moment:?}: lines before"));
+    if moment == Fresh {
+        return;
+    }
+    script.say("(circuit 2)", "(ok)");
+    match moment {
+        Full | FullOpen => in_layers(script, &[GATE; HISTORY]),
+        _ => script.say(GATE.to_string(), "(ok)"),
+    }
+    script.say("(start 00 01 00)", "(ok)");
+    if matches!(moment, Open | FullOpen) {
+        script.say("(amp b 00 01 00)", "(left 4)");
+        script.say("(step 1)", "(left 3)");
+    }
+}
+
+/// The lines that show what is held: S is 48 with one CCZ, 64 with none or an even number of the same.
+fn end(script: &mut Script, moment: Moment) {
+    script.case(format!("{moment:?}: nothing changed"));
+    let (gates, s) = match moment {
+        Fresh => return script.say("(circuit 2)", "(ok)"),
+        Held | Open => (1, 48),
+        Full | FullOpen => (HISTORY, 64),
+    };
+    if matches!(moment, Open | FullOpen) {
+        script.say("(step 2)", "(left 1)");
+        script.line("(step 1)", format!("(amp {s} 6)"));
+    }
+    let terms: &[Gate] = if s == 48 { &[GATE] } else { &[] };
+    script.line("(terms)", listing(terms));
+    script.say("(amp r 00 01 00)", "(left 4)");
+    script.line("(step 4)", format!("(amp {s} 6)"));
+    script.say("(part g 00 01)", "(left 4)");
+    script.say("(step 4)", if s == 48 { "(part 40 6)" } else { "(part 64 6)" });
+    script.line(format!("(undo {gates})"), "(ok)".to_string());
+    script.say("(undo 1)", "(no 12)");
+}
+
+/// A line, the moments at which it is given, and its refusal.
+pub struct Refused {
+    line: Vec<u8>,
+    moments: Vec<Moment>,
+    number: u32,
+    why: String,
+}
+
+pub fn refused(line: impl Into<Vec<u8>>, moments: &[Moment], number: u32, why: &str) -> Refused {
+    Refused {
+        line: line.into(),
+        moments: moments.to_vec(),
+        number,
+        why: why.to_string(),
+    }
+}
+
+pub fn check(checks: &mut Checks) {
+    let tables = [forms::table(), operands::table(), pairs::table()];
+    let lines: Vec<Refused> = tables.into_iter().flatten().collect();
+    for moment in MOMENTS {
+        let mut script = Script::default();
+        begin(&mut script, moment);
+        for line in lines.iter().filter(|line| line.moments.contains(&moment)) {
+            let text: String = line.line.escape_ascii().to_string();
+            script.case(format!("{moment:?}: {} by {}, {text:.60}", line.why, line.number));
+            script.line(&line.line, format!("(no {})", line.number));
+        }
+        end(&mut script, moment);
+        checks.run(&script);
+        model_agrees(checks, &script, moment);
+    }
+}
+
+/// The model is held to the same tables, since the random lines are judged by it.
+fn model_agrees(checks: &mut Checks, script: &Script, moment: Moment) {
+    let mut model = Model::default();
+    let outcome = script.answered_by(|line| model.answer(line));
+    checks
+        .tally
+        .check(&format!("{moment:?}: the model on the same lines"), outcome);
+}

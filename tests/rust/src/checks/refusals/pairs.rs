@@ -1,0 +1,152 @@
+//! Lines that two refusals fit, for every pair that can meet; the place higher up wins, and in a place the lower number.
+//! 3 stands here beside what the line would get without the byte. Pairs that are not here never meet: 9 and 11, 6 and 7, 7 and 8,
+//! 6 and 13 in a program that lends 4,096 places, 5 or 8 beside what only other forms get, and any two of 11, 12 and 13.
+
+use super::Moment::{Fresh, Full, FullOpen, Held, Open};
+use super::{GATE, MOMENTS, Moment, Refused, refused};
+use waitfield_checks::gates::{Colour::Red, Gate};
+use waitfield_checks::gates::{cz, layer};
+
+/// The refusal, the one it wins over, the moments, and the line.
+type Pair = (u32, u32, &'static [Moment], &'static str);
+
+const ANY: &[Moment] = &MOMENTS;
+const NO_SUM: &[Moment] = &[Held, Full];
+const SUM: &[Moment] = &[Open, FullOpen];
+
+const PAIRS: &[Pair] = &[
+    (3, 4, ANY, "(term)\r"),
+    (3, 4, ANY, "(Terms )"),
+    (3, 5, ANY, "(cz (r 1) (r 1))\r"),
+    (3, 6, &[Fresh], "(terms)\r"),
+    (3, 7, SUM, "(terms)\r"),
+    (3, 8, NO_SUM, "(drop)\r"),
+    (3, 9, NO_SUM, "(undo 0)\r"),
+    (3, 10, NO_SUM, "(cnot r 1 1)\r"),
+    (3, 11, NO_SUM, "(start 0 0 0)\r"),
+    (3, 12, &[Held], "(undo 4096)\r"),
+    (3, 13, &[Full], "(ccz 1 1 1)\r"),
+    (4, 5, ANY, "(layer (cz (r 1) (r 2)) (ccz 1 1))"),
+    (4, 5, ANY, "(layer (ccz 01 1 1) (cz (r 1) (r 2)))"),
+    (4, 5, ANY, "(layer (cz (r 1) (r 2)) (undo 1))"),
+    (4, 5, ANY, "(cz (r 1) (r 01))"),
+    (4, 5, ANY, "(cz (r 1) (r 1) )"),
+    (4, 6, &[Fresh], "(undo 01)"),
+    (4, 6, &[Fresh], "(start 0 0 2)"),
+    (4, 7, SUM, "(circuit 01)"),
+    (4, 7, SUM, "(amp r 00 00 02)"),
+    (4, 8, NO_SUM, "(step 00)"),
+    (4, 8, NO_SUM, "(drop 1)"),
+    (4, 9, NO_SUM, "(ccz 3 1 01)"),
+    (4, 9, NO_SUM, "(layer (ccz 0 0 0) (ccz 0 0))"),
+    (4, 10, NO_SUM, "(layer (cnot r 1 1) (cnot r 1))"),
+    (4, 11, NO_SUM, "(start 0 2 0)"),
+    (4, 11, NO_SUM, "(amp r 0 00 03)"),
+    (4, 11, NO_SUM, "(part r 2 00000)"),
+    (4, 12, &[Held], "(undo 0999)"),
+    (4, 13, &[Full], "(layer (ccz 1 1 1) (ccz 1 1 1) )"),
+    (5, 6, &[Fresh], "(cz (r 1) (r 2))"),
+    (5, 7, SUM, "(cz (r 1) (r 2))"),
+    (5, 9, NO_SUM, "(cz (r 3) (r 0))"),
+    (5, 9, NO_SUM, "(layer (ccz 3 1 1) (cz (b 1) (b 2)))"),
+    (5, 10, NO_SUM, "(layer (cnot r 1 1) (cz (b 1) (b 2)))"),
+    (5, 13, &[Full], "(cz (g 1) (g 2))"),
+    (6, 8, &[Fresh], "(step 1)"),
+    (6, 8, &[Fresh], "(drop)"),
+    (6, 9, &[Fresh], "(step 0)"),
+    (6, 9, &[Fresh], "(step 65537)"),
+    (6, 9, &[Fresh], "(undo 0)"),
+    (6, 9, &[Fresh], "(undo 4097)"),
+    (6, 9, &[Fresh], "(layer)"),
+    (6, 9, &[Fresh], "(ccz 0 1 1)"),
+    (6, 9, &[Fresh], "(cz (r 17) (g 17))"),
+    (6, 10, &[Fresh], "(cnot r 1 1)"),
+    (6, 10, &[Fresh], "(layer (cnot r 1 1))"),
+    (6, 11, &[Fresh], "(start 00000000000000000 0 00)"),
+    (6, 11, &[Fresh], "(part b 0 00)"),
+    (6, 12, &[Fresh], "(undo 1)"),
+    (7, 9, SUM, "(circuit 0)"),
+    (7, 9, SUM, "(circuit 17)"),
+    (7, 9, SUM, "(ccz 0 1 1)"),
+    (7, 9, SUM, "(undo 0)"),
+    (7, 9, SUM, "(undo 4097)"),
+    (7, 9, SUM, "(layer)"),
+    (7, 10, SUM, "(cnot r 1 1)"),
+    (7, 10, SUM, "(layer (cnot r 1 2) (cnot g 2 2))"),
+    (7, 11, SUM, "(start 0 00 00)"),
+    (7, 11, SUM, "(amp r 0 0 0)"),
+    (7, 11, SUM, "(part r 000 00)"),
+    (7, 12, &[Open], "(undo 2)"),
+    (7, 12, &[Open], "(undo 4096)"),
+    (7, 13, &[FullOpen], "(ccz 1 1 1)"),
+    (7, 13, &[FullOpen], "(layer (ccz 1 1 1) (cnot r 1 2))"),
+    (8, 9, NO_SUM, "(step 0)"),
+    (8, 9, NO_SUM, "(step 65537)"),
+    (8, 9, NO_SUM, "(step 99999999999999999999999)"),
+    (9, 10, NO_SUM, "(cnot r 3 3)"),
+    (9, 10, NO_SUM, "(cnot g 0 0)"),
+    (9, 10, NO_SUM, "(cnot b 18446744073709551617 18446744073709551617)"),
+    (9, 10, NO_SUM, "(layer (cnot r 1 1) (ccz 3 1 1))"),
+    (9, 10, NO_SUM, "(layer (ccz 1 1 0) (cnot r 1 1))"),
+    (9, 12, NO_SUM, "(undo 4097)"),
+    (9, 12, NO_SUM, "(undo 99999999999999999999999)"),
+    (9, 13, &[Full], "(ccz 1 1 3)"),
+    (9, 13, &[Full], "(layer (ccz 1 1 1) (cz (r 1) (g 0)))"),
+    (10, 13, &[Full], "(cnot r 2 2)"),
+    (10, 13, &[Full], "(layer (ccz 1 1 1) (cnot b 1 1))"),
+];
+
+/// Layers of 49 gates, one of them also refused by another number.
+fn too_many_gates() -> Vec<Refused> {
+    let with = |gate: Gate, place: usize| {
+        let mut gates = [GATE; 49];
+        gates[place] = gate;
+        layer(&gates)
+    };
+    let onto_itself = Gate::Cnot {
+        colour: Red,
+        control: 1,
+        target: 1,
+    };
+    let mut lines = Vec::new();
+    for place in [0, 24, 47, 48] {
+        let twice = with(cz(Red, 1, Red, 2), place);
+        lines.push(refused(twice, ANY, 5, "over 9, 49 gates"));
+        lines.push(refused(with(onto_itself, place), NO_SUM, 9, "over 10, 49 gates"));
+        let malformed = with(onto_itself, place).replace("(cnot r 1 1)", "(cnot r 1)");
+        lines.push(refused(malformed, ANY, 4, "over 9, 49 gates"));
+    }
+    lines.push(refused(layer(&[GATE; 49]), &[Fresh], 6, "over 9, 49 gates"));
+    lines.push(refused(layer(&[GATE; 49]), SUM, 7, "over 9, 49 gates"));
+    lines.push(refused(layer(&[GATE; 49]), &[Full], 9, "over 13, 49 gates"));
+    lines
+}
+
+/// Lines of more than 1,024 bytes that any other number fits.
+fn too_long() -> Vec<Refused> {
+    let (ones, zeros) = ("1".repeat(1100), "0".repeat(1100));
+    vec![
+        refused("A".repeat(1025), ANY, 2, "over 3"),
+        refused([b"(terms)".to_vec(), vec![0; 1018]].concat(), ANY, 2, "over 3"),
+        refused("x".repeat(1025), ANY, 2, "over 4"),
+        refused(format!("(cz (r 1) (r {ones}))"), ANY, 2, "over 5"),
+        refused(format!("(undo {ones})"), &[Fresh], 2, "over 6"),
+        refused(format!("(undo {ones})"), SUM, 2, "over 7"),
+        refused(format!("(step {ones})"), NO_SUM, 2, "over 8"),
+        refused(format!("(step {ones})"), SUM, 2, "over 9"),
+        refused(format!("(circuit {ones})"), NO_SUM, 2, "over 9"),
+        refused(layer(&[GATE; 100]), NO_SUM, 2, "over 9"),
+        refused(format!("(cnot r {ones} {ones})"), NO_SUM, 2, "over 10"),
+        refused(format!("(start {zeros} 00 00)"), NO_SUM, 2, "over 11"),
+        refused(format!("(undo {ones})"), &[Held], 2, "over 12"),
+        refused(layer(&[GATE; 90]), &[Full], 2, "over 13"),
+    ]
+}
+
+pub fn table() -> Vec<Refused> {
+    let pair = |&(number, over, moments, line): &Pair| refused(line, moments, number, &format!("over {over}"));
+    let mut lines: Vec<Refused> = PAIRS.iter().map(pair).collect();
+    lines.extend(too_many_gates());
+    lines.extend(too_long());
+    lines
+}

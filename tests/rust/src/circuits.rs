@@ -1,0 +1,67 @@
+//! Circuits that the examples, the checks and the benchmark are made of.
+
+use crate::gates::{COLOURS, Colour, Gate, cz};
+use crate::random::Random;
+
+/// Position p of every colour as one block (001, section I.B): a gate list for each block, as one layer.
+pub fn in_blocks(m: usize, gate: impl Fn(usize) -> Gate) -> Vec<Gate> {
+    (1..=m).map(gate).collect()
+}
+
+pub fn block_ccz(block: usize) -> Gate {
+    Gate::Ccz {
+        red: block,
+        blue: block,
+        green: block,
+    }
+}
+
+/// The CNOT layer along one direction of the cube: the blocks whose number less 1 has an even number of ones are the
+/// controls, their neighbours the targets.
+fn along(direction: usize, m: usize) -> Vec<Gate> {
+    let controls = (0..m).filter(|vertex| vertex.count_ones() % 2 == 0);
+    let cnot = |vertex: usize| {
+        COLOURS.map(|colour| Gate::Cnot {
+            colour,
+            control: vertex + 1,
+            target: (vertex ^ 1 << direction) + 1,
+        })
+    };
+    controls.flat_map(cnot).collect()
+}
+
+/// The circuit of source document 001 on 2^k blocks of three: k + 1 stages of CCZ and CZ inside the blocks, a CNOT layer along one
+/// direction of the cube between two of them. Document 01 has no Z gate. No layer uses a position twice.
+pub fn hypercube(k: usize) -> Vec<Vec<Gate>> {
+    let m = 1 << k;
+    let mut layers = Vec::new();
+    for stage in 0..=k {
+        let [first, second] = COLOURS[stage % 3].others();
+        layers.push(in_blocks(m, block_ccz));
+        layers.push(in_blocks(m, |block| cz(first, block, second, block)));
+        if stage < k {
+            layers.push(along(stage, m));
+        }
+    }
+    layers
+}
+
+/// A circuit whose slices on red all have rank m: the matrix of blue and green has ones on its diagonal, whatever the red string is,
+/// and red changes only what stands above it.
+pub fn full_rank(m: usize, seed: u64) -> Vec<Vec<Gate>> {
+    let mut random = Random::new(seed);
+    let mut layers = vec![in_blocks(m, |p| cz(Colour::Blue, p, Colour::Green, p))];
+    for shift in 1..m {
+        // Blue p stands beside green p + shift, so the entry is above the diagonal.
+        let above = |p: usize, red: usize| Gate::Ccz {
+            red,
+            blue: p,
+            green: p + shift,
+        };
+        let turn = random.below(m);
+        layers.push((1..=m - shift).map(|p| above(p, 1 + (p + turn) % m)).collect());
+    }
+    layers.push(in_blocks(m, |p| cz(Colour::Red, p, Colour::Blue, 1 + p % m)));
+    layers.push(in_blocks(m, |p| cz(Colour::Red, p, Colour::Green, 1 + (p + 1) % m)));
+    layers
+}

@@ -1,0 +1,214 @@
+//! Sums by slices for circuits that are too large for the full sum, after source document 000, equation 2.
+//!
+//! The polynomial is not built by the rule of document 01 for CNOT. The gates are gone through from the last to the first, with
+//! every position's bit written as a sum of bits of the final string; a CCZ or CZ then is a product of such sums.
+
+use crate::gates::{Colour, Gate, Strings, cz};
+
+/// One more than the number of positions of the largest circuit. Index 0 stands for "no position of this colour".
+const INDICES: usize = 17;
+
+pub struct Polynomial {
+    m: usize,
+    /// Bit k of word (i, j): the term of red i, blue j and green k is present.
+    words: [[u32; INDICES]; INDICES],
+}
+
+fn ones(word: u32) -> impl Iterator<Item = usize> {
+    (0..32).filter(move |place| word >> place & 1 == 1)
+}
+
+impl Polynomial {
+    pub fn of(m: usize, gates: &[Gate]) -> Polynomial {
+        let mut polynomial = Polynomial {
+            m,
+            words: [[0; INDICES]; INDICES],
+        };
+        // At the end of the circuit every bit is that of the final string; form 0 is the constant 1.
+        let mut forms = [[0u32; INDICES]; 3];
+        for form in &mut forms {
+            *form = std::array::from_fn(|index| 1 << index);
+        }
+        for gate in gates.iter().rev() {
+            match *gate {
+                Gate::Ccz { red, blue, green } => polynomial.add(&forms, [red, blue, green]),
+                Gate::Cz(first, second) => {
+                    let mut indices = [0; 3];
+                    indices[first.colour.number()] = first.position;
+                    indices[second.colour.number()] = second.position;
+                    polynomial.add(&forms, indices);
+                }
+                Gate::Cnot {
+                    colour,
+                    control,
+                    target,
+                } => {
+                    let colour = &mut forms[colour.number()];
+                    colour[target] ^= colour[control];
+                }
+            }
+        }
+        polynomial
+    }
+
+    fn add(&mut self, forms: &[[u32; INDICES]; 3], indices: [usize; 3]) {
+        let [red, blue, green] = [0, 1, 2].map(|colour| forms[colour][indices[colour]]);
+        for i in ones(red) {
+            for j in ones(blue) {
+                self.words[i][j] ^= green;
+            }
+        }
+    }
+
+    pub fn has(&self, indices: [usize; 3]) -> bool {
+        self.words[indices[0]][indices[1]] >> indices[2] & 1 == 1
+    }
+
+    /// CCZ terms by red, blue and green position, then CZ terms red-blue, red-green and blue-green.
+    pub fn terms(&self) -> Vec<Gate> {
+        let mut terms = Vec::new();
+        for red in 1..=self.m {
+            for blue in 1..=self.m {
+                let greens = ones(self.words[red][blue]).filter(|&green| green > 0);
+                terms.extend(greens.map(|green| Gate::Ccz { red, blue, green }));
+            }
+        }
+        for [first, second] in [Colour::Green, Colour::Blue, Colour::Red].map(Colour::others) {
+            for i in 1..=self.m {
+                for j in 1..=self.m {
+                    let mut indices = [0; 3];
+                    indices[first.number()] = i;
+                    indices[second.number()] = j;
+                    if self.has(indices) {
+                        terms.push(cz(first, i, second, j));
+                    }
+                }
+            }
+        }
+        terms
+    }
+}
+
+/// A matrix with index 0: rows by the first of the two colours that are not sliced, columns by the second. Column 0 is the first
+/// vector, row 0 the second, and their corner is the sliced colour's part of the sign.
+type Matrix = [u32; INDICES];
+
+/// The slices of one colour, at one output string.
+pub struct Slices {
+    m: usize,
+    /// What index i of the sliced colour adds to a slice's matrix.
+    parts: [Matrix; INDICES],
+}
+
+/// A slice whose inner sum is not 0.
+struct Inner {
+    negative: bool,
+    rank: usize,
+}
+
+/// What the slices add up to.
+#[derive(Default)]
+pub struct Totals {
+    /// S at the output string.
+    pub amplitude: i64,
+    /// T with the sliced colour unread; the output string's bits of that colour play no part in it.
+    pub readout: u64,
+    /// Slices of each rank whose inner sum is not 0.
+    pub ranks: [usize; INDICES],
+}
+
+impl Slices {
+    pub fn of(polynomial: &Polynomial, sliced: Colour, output: Strings) -> Slices {
+        let m = polynomial.m;
+        let [first, second] = sliced.others();
+        let mut parts = [[0; INDICES]; INDICES];
+        for (i, part) in parts.iter_mut().enumerate() {
+            for (j, row) in part.iter_mut().enumerate() {
+                for k in 0..INDICES {
+                    let mut indices = [0; 3];
+                    indices[sliced.number()] = i;
+                    indices[first.number()] = j;
+                    indices[second.number()] = k;
+                    *row |= u32::from(polynomial.has(indices)) << k;
+                }
+            }
+        }
+        for p in 1..=m {
+            let bit = |colour: Colour| output[colour.number()] >> (p - 1) & 1;
+            parts[p][0] ^= bit(sliced);
+            parts[0][p] ^= bit(first);
+            parts[0][0] ^= bit(second) << p;
+        }
+        Slices { m, parts }
+    }
+
+    /// The parts of a slice's string added up; position 1 is the highest digit of its number.
+    fn matrix(&self, number: u32) -> Matrix {
+        let mut rows = self.parts[0];
+        for p in 1..=self.m {
+            if number >> (self.m - p) & 1 == 1 {
+                rows.iter_mut().zip(&self.parts[p]).for_each(|(row, part)| *row ^= part);
+            }
+        }
+        rows
+    }
+
+    pub fn totals(&self) -> Totals {
+        let mut totals = Totals::default();
+        for number in 0..1 << self.m {
+            let mut matrix = self.matrix(number);
+            let turned = matrix[0] & 1 == 1;
+            let second = matrix[0] >> 1;
+            let Some(inner) = inner(self.m, &mut matrix[1..=self.m], second) else {
+                continue;
+            };
+            let size = 1 << (2 * self.m - inner.rank);
+            totals.amplitude += if inner.negative != turned { -size } else { size };
+            totals.readout += 1 << (2 * self.m - 2 * inner.rank);
+            totals.ranks[inner.rank] += 1;
+        }
+        totals
+    }
+}
+
+/// The inner sum of a slice. A row has its right side in bit 0 and the coefficients of the unknowns above.
+fn inner(m: usize, rows: &mut [u32], second: u32) -> Option<Inner> {
+    // Row by row the column of its pivot.
+    let mut columns = [0; INDICES];
+    let mut rank = 0;
+    for column in 1..=m {
+        let Some(found) = (rank..m).find(|&row| rows[row] >> column & 1 == 1) else {
+            continue;
+        };
+        rows.swap(rank, found);
+        for row in 0..m {
+            if row != rank && rows[row] >> column & 1 == 1 {
+                rows[row] ^= rows[rank];
+            }
+        }
+        columns[rank] = column;
+        rank += 1;
+    }
+    // No solution: a row without unknowns whose right side is 1.
+    if rows[rank..].iter().any(|&row| row != 0) {
+        return None;
+    }
+    // Outside the row space: something is left of the second vector once the rows are taken off.
+    let mut rest = second;
+    let mut solution = 0;
+    for (row, column) in rows[..rank].iter().zip(columns) {
+        if rest >> (column - 1) & 1 == 1 {
+            rest ^= row >> 1;
+        }
+        solution |= (row & 1) << (column - 1);
+    }
+    (rest == 0).then_some(Inner {
+        negative: (second & solution).count_ones() % 2 == 1,
+        rank,
+    })
+}
+
+/// What the slices on a colour add up to.
+pub fn totals(polynomial: &Polynomial, sliced: Colour, output: Strings) -> Totals {
+    Slices::of(polynomial, sliced, output).totals()
+}

@@ -1,0 +1,115 @@
+//! Colours, gates and strings in the words of document 01, and their spelling in a line.
+
+use std::fmt;
+
+#[derive(Clone, Copy, PartialEq, Eq, PartialOrd, Ord, Debug)]
+pub enum Colour {
+    Red,
+    Blue,
+    Green,
+}
+
+pub const COLOURS: [Colour; 3] = [Colour::Red, Colour::Blue, Colour::Green];
+
+impl Colour {
+    pub fn number(self) -> usize {
+        self as usize
+    }
+
+    /// The other two colours, in order r, b, g.
+    pub fn others(self) -> [Colour; 2] {
+        match self {
+            Colour::Red => [Colour::Blue, Colour::Green],
+            Colour::Blue => [Colour::Red, Colour::Green],
+            Colour::Green => [Colour::Red, Colour::Blue],
+        }
+    }
+}
+
+impl fmt::Display for Colour {
+    fn fmt(&self, f: &mut fmt::Formatter) -> fmt::Result {
+        f.write_str(["r", "b", "g"][self.number()])
+    }
+}
+
+/// A position of a colour. Positions run from 1.
+#[derive(Clone, Copy, PartialEq, Eq, PartialOrd, Ord, Debug)]
+pub struct Spot {
+    pub colour: Colour,
+    pub position: usize,
+}
+
+impl fmt::Display for Spot {
+    fn fmt(&self, f: &mut fmt::Formatter) -> fmt::Result {
+        write!(f, "({} {})", self.colour, self.position)
+    }
+}
+
+#[derive(Clone, Copy, PartialEq, Eq, PartialOrd, Ord, Debug)]
+pub enum Gate {
+    Ccz {
+        red: usize,
+        blue: usize,
+        green: usize,
+    },
+    Cz(Spot, Spot),
+    Cnot {
+        colour: Colour,
+        control: usize,
+        target: usize,
+    },
+}
+
+impl fmt::Display for Gate {
+    fn fmt(&self, f: &mut fmt::Formatter) -> fmt::Result {
+        match self {
+            Gate::Ccz { red, blue, green } => write!(f, "(ccz {red} {blue} {green})"),
+            Gate::Cz(first, second) => write!(f, "(cz {first} {second})"),
+            Gate::Cnot {
+                colour,
+                control,
+                target,
+            } => write!(f, "(cnot {colour} {control} {target})"),
+        }
+    }
+}
+
+pub fn cz(first: Colour, position: usize, second: Colour, other: usize) -> Gate {
+    let spot = |colour, position| Spot { colour, position };
+    Gate::Cz(spot(first, position), spot(second, other))
+}
+
+/// The line `(layer GATE GATE ..)`.
+pub fn layer(gates: &[Gate]) -> String {
+    let spelled: Vec<String> = gates.iter().map(|gate| format!(" {gate}")).collect();
+    format!("(layer{})", spelled.concat())
+}
+
+/// One bit to every position of every colour: bit p - 1 of a word is position p of that colour.
+pub type Strings = [u32; 3];
+
+/// The starting ones added to an output string, modulo 2 (001, section I.A).
+pub fn added(output: Strings, start: Strings) -> Strings {
+    [0, 1, 2].map(|colour| output[colour] ^ start[colour])
+}
+
+/// A bit string of m digits, position 1 first.
+pub fn digits(m: usize, word: u32) -> String {
+    (0..m)
+        .map(|place| if word >> place & 1 == 1 { '1' } else { '0' })
+        .collect()
+}
+
+/// The word of a bit string of at most 32 digits.
+pub fn word(digits: &str) -> u32 {
+    digits
+        .bytes()
+        .enumerate()
+        .map(|(place, digit)| u32::from(digit == b'1') << place)
+        .sum()
+}
+
+/// Three bit strings as `amp` and `start` have them.
+pub fn spelled(m: usize, strings: Strings) -> String {
+    strings.map(|word| digits(m, word)).join(" ")
+}

@@ -1,0 +1,265 @@
+//! A model of the session: what document 01 says a line is answered, written down a second time. Refusal 1 is left out, since
+//! `session` lends a buffer that is long enough.
+
+use crate::elimination::{Polynomial, totals};
+use crate::forms::Form;
+use crate::gates::{Colour, Gate, Strings, added, word};
+use crate::reference::FullSum;
+
+/// Gates that the history of `session` holds.
+pub const HISTORY: usize = 4096;
+
+/// The largest m at which the model takes the full sum.
+const FULL_SUM: usize = 4;
+
+/// An answer: its first line and the later ones.
+#[derive(Clone, Debug)]
+pub struct Answer {
+    pub first: String,
+    pub later: Vec<String>,
+}
+
+/// The order of `terms` is left open, so later lines are compared in rising order.
+impl PartialEq for Answer {
+    fn eq(&self, other: &Answer) -> bool {
+        let sorted = |lines: &[String]| {
+            let mut lines = lines.to_vec();
+            lines.sort();
+            lines
+        };
+        self.first == other.first && sorted(&self.later) == sorted(&other.later)
+    }
+}
+
+impl From<String> for Answer {
+    fn from(first: String) -> Answer {
+        let later = Vec::new();
+        Answer { first, later }
+    }
+}
+
+/// The answer to `terms`.
+pub fn listing(terms: &[Gate]) -> Answer {
+    Answer {
+        first: format!("(terms {})", terms.len()),
+        later: terms.iter().map(Gate::to_string).collect(),
+    }
+}
+
+#[derive(Clone)]
+pub struct Circuit {
+    pub m: usize,
+    pub gates: Vec<Gate>,
+    pub start: Strings,
+}
+
+/// An open sum, with the circuit as it stood when it was opened.
+struct Sum {
+    circuit: Circuit,
+    colour: Colour,
+    output: Strings,
+    readout: bool,
+    left: usize,
+}
+
+impl Sum {
+    /// The line after the step that ends it. Nothing is worked out before, so a sum that is dropped costs nothing.
+    fn ended(&self) -> String {
+        let Circuit { m, gates, start } = &self.circuit;
+        let output = added(self.output, *start);
+        let n = 3 * m;
+        if self.readout {
+            format!("(part {} {n})", count(*m, gates, self.colour, output))
+        } else {
+            format!("(amp {} {n})", amplitude(*m, gates, self.colour, output))
+        }
+    }
+}
+
+fn amplitude(m: usize, gates: &[Gate], sliced: Colour, output: Strings) -> i64 {
+    if m <= FULL_SUM {
+        FullSum::of(m, gates).amplitude(output)
+    } else {
+        totals(&Polynomial::of(m, gates), sliced, output).amplitude
+    }
+}
+
+fn count(m: usize, gates: &[Gate], unread: Colour, output: Strings) -> u64 {
+    if m <= FULL_SUM {
+        let read = unread.others().map(|colour| output[colour.number()]);
+        let counted = FullSum::of(m, gates).readout(unread, read);
+        counted.expect("the squares add up to a multiple of 2^(3m)")
+    } else {
+        totals(&Polynomial::of(m, gates), unread, output).readout
+    }
+}
+
+#[derive(Default)]
+pub struct Model {
+    circuit: Option<Circuit>,
+    sum: Option<Sum>,
+}
+
+fn allowed(byte: u8) -> bool {
+    byte.is_ascii_digit() || byte.is_ascii_lowercase() || b"( )".contains(&byte)
+}
+
+/// Whether a number of the form is outside its range, for a circuit of m positions.
+fn outside(form: &Form, m: usize) -> bool {
+    let position = |p: usize| !(1..=m).contains(&p);
+    let gate = |gate: &Gate| match *gate {
+        Gate::Ccz { red, blue, green } => [red, blue, green].into_iter().any(position),
+        Gate::Cz(first, second) => position(first.position) || position(second.position),
+        Gate::Cnot { control, target, .. } => position(control) || position(target),
+    };
+    let number = match form {
+        Form::Circuit(m) => !(1..=16).contains(m),
+        Form::Layer(gates) => !(1..=48).contains(&gates.len()),
+        Form::Undo(k) => !(1..=4096).contains(k),
+        Form::Step(k) => !(1..=65536).contains(k),
+        _ => false,
+    };
+    number || form.gates().iter().any(gate)
+}
+
+impl Model {
+    pub fn circuit(&self) -> Option<&Circuit> {
+        self.circuit.as_ref()
+    }
+
+    pub fn sum_is_open(&self) -> bool {
+        self.sum.is_some()
+    }
+
+    /// The answer to a line; none to a line of no bytes.
+    pub fn answer(&mut self, line: &[u8]) -> Option<Answer> {
+        if line.is_empty() {
+            return None;
+        }
+        Some(match self.read(line) {
+            Ok(form) => self.take(form),
+            Err(refusal) => format!("(no {refusal})").into(),
+        })
+    }
+
+    /// The form of a line that is taken, or the refusal: the places from the top, each number in turn.
+    fn read(&self, line: &[u8]) -> Result<Form, u32> {
+        if line.len() > 1024 {
+            return Err(2);
+        }
+        if !line.iter().all(|&byte| allowed(byte)) {
+            return Err(3);
+        }
+        let text = std::str::from_utf8(line).or(Err(3u32))?;
+        let form = Form::read(text).ok_or(4u32)?;
+        let twice = |gate: &Gate| matches!(gate, Gate::Cz(a, b) if a.colour == b.colour);
+        if form.gates().iter().any(twice) {
+            return Err(5);
+        }
+        self.moment(&form)?;
+        self.operands(&form)?;
+        self.history(&form)?;
+        Ok(form)
+    }
+
+    fn moment(&self, form: &Form) -> Result<(), u32> {
+        let works_on_sum = matches!(form, Form::Step(_) | Form::Drop);
+        if self.circuit.is_none() && !matches!(form, Form::Circuit(_)) {
+            return Err(6);
+        }
+        match (self.sum.is_some(), works_on_sum) {
+            (true, false) => Err(7),
+            (false, true) => Err(8),
+            _ => Ok(()),
+        }
+    }
+
+    fn operands(&self, form: &Form) -> Result<(), u32> {
+        let m = self.circuit.as_ref().map_or(0, |circuit| circuit.m);
+        let onto_itself = |gate: &Gate| matches!(gate, Gate::Cnot { control, target, .. } if control == target);
+        if outside(form, m) {
+            return Err(9);
+        }
+        if form.gates().iter().any(onto_itself) {
+            return Err(10);
+        }
+        if form.strings().iter().any(|digits| digits.len() != m) {
+            return Err(11);
+        }
+        Ok(())
+    }
+
+    fn history(&self, form: &Form) -> Result<(), u32> {
+        let held = self.circuit.as_ref().map_or(0, |circuit| circuit.gates.len());
+        match form {
+            Form::Undo(k) if *k > held => Err(12),
+            _ if form.gates().len() > HISTORY - held => Err(13),
+            _ => Ok(()),
+        }
+    }
+
+    /// A form that is not refused.
+    fn take(&mut self, form: Form) -> Answer {
+        if let Form::Circuit(m) = form {
+            self.circuit = Some(Circuit {
+                m,
+                gates: Vec::new(),
+                start: [0; 3],
+            });
+            return "(ok)".to_string().into();
+        }
+        let circuit = self.circuit.as_mut().expect("6 is tried before");
+        match form {
+            Form::Gate(_) | Form::Layer(_) => circuit.gates.extend(form.gates()),
+            Form::Undo(k) => circuit.gates.truncate(circuit.gates.len() - k),
+            Form::Start(strings) => circuit.start = strings.each_ref().map(|s| word(s)),
+            Form::Drop => self.sum = None,
+            Form::Terms => return listing(&Polynomial::of(circuit.m, &circuit.gates).terms()),
+            Form::Amp(colour, strings) => {
+                let output = strings.each_ref().map(|s| word(s));
+                return self.open(colour, output, false);
+            }
+            Form::Part(unread, strings) => {
+                let mut output = [0; 3];
+                for (colour, string) in unread.others().into_iter().zip(&strings) {
+                    output[colour.number()] = word(string);
+                }
+                return self.open(unread, output, true);
+            }
+            Form::Step(k) => return self.step(k),
+            Form::Circuit(_) => unreachable!(),
+        }
+        "(ok)".to_string().into()
+    }
+
+    fn open(&mut self, colour: Colour, output: Strings, readout: bool) -> Answer {
+        let circuit = self.circuit.clone().expect("6 is tried before");
+        let left = 1 << circuit.m;
+        self.sum = Some(Sum {
+            circuit,
+            colour,
+            output,
+            readout,
+            left,
+        });
+        format!("(left {left})").into()
+    }
+
+    fn step(&mut self, k: usize) -> Answer {
+        let sum = self.sum.as_mut().expect("8 is tried before");
+        sum.left = sum.left.saturating_sub(k);
+        if sum.left > 0 {
+            return format!("(left {})", sum.left).into();
+        }
+        let ended = sum.ended();
+        self.sum = None;
+        ended.into()
+    }
+
+    /// All answer lines to an input, in the order in which `session` writes them.
+    pub fn session(input: &[u8]) -> Vec<Answer> {
+        let mut model = Model::default();
+        let lines = input.split(|&byte| byte == b'\n');
+        lines.filter_map(|line| model.answer(line)).collect()
+    }
+}

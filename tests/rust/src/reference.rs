@@ -1,0 +1,102 @@
+//! The signed sum S of document 01: every one of the 2^n basis strings is carried through the gates as source document
+//! 000 describes them. Nothing is known here of phase polynomials, slices or elimination.
+
+use crate::gates::{Colour, Gate, Spot, Strings, cz};
+
+/// The sum over all basis strings of a circuit of m positions; meant for m up to 4.
+pub struct FullSum {
+    m: usize,
+    /// At x the signs of the strings that end as x, added up.
+    signs: Vec<i64>,
+}
+
+/// A basis string in one word: position p of colour c is bit c m + p - 1.
+fn joined(m: usize, strings: Strings) -> u32 {
+    strings[0] | strings[1] << m | strings[2] << (2 * m)
+}
+
+/// The string that `y` ends as, and whether its sign was turned on the way.
+fn carry(m: usize, gates: &[Gate], y: u32) -> (u32, bool) {
+    let mut x = y;
+    let mut turned = false;
+    for gate in gates {
+        let one = |colour: Colour, position: usize| x >> (colour.number() * m + position - 1) & 1;
+        let at = |spot: Spot| one(spot.colour, spot.position);
+        match *gate {
+            Gate::Ccz { red, blue, green } => {
+                let all = [(Colour::Red, red), (Colour::Blue, blue), (Colour::Green, green)];
+                turned ^= all.iter().all(|&(colour, position)| one(colour, position) == 1);
+            }
+            Gate::Cz(first, second) => turned ^= at(first) == 1 && at(second) == 1,
+            Gate::Cnot {
+                colour,
+                control,
+                target,
+            } => x ^= one(colour, control) << (colour.number() * m + target - 1),
+        }
+    }
+    (x, turned)
+}
+
+impl FullSum {
+    pub fn of(m: usize, gates: &[Gate]) -> FullSum {
+        let mut signs = vec![0; 1 << (3 * m)];
+        for y in 0..1 << (3 * m) {
+            let (x, turned) = carry(m, gates, y);
+            signs[x as usize] += if turned { -1 } else { 1 };
+        }
+        FullSum { m, signs }
+    }
+
+    /// S at an output string.
+    pub fn amplitude(&self, output: Strings) -> i64 {
+        let s = joined(self.m, output) as usize;
+        let turned = |x: usize| (x & s).count_ones() % 2 == 1;
+        let signed = |(x, &sign): (usize, &i64)| if turned(x) { -sign } else { sign };
+        self.signs.iter().enumerate().map(signed).sum()
+    }
+
+    /// The readout count T by squares: 2^(3m) T is the sum of S^2 over the strings of the unread colour.
+    /// None if that sum is no multiple of 2^(3m).
+    pub fn readout(&self, unread: Colour, read: [u32; 2]) -> Option<u64> {
+        let [first, second] = unread.others();
+        let mut output = [0; 3];
+        output[first.number()] = read[0];
+        output[second.number()] = read[1];
+        let mut squares = 0u128;
+        for string in 0..1 << self.m {
+            output[unread.number()] = string;
+            squares += u128::from(self.amplitude(output).unsigned_abs()).pow(2);
+        }
+        let unit = 1 << (3 * self.m);
+        squares.is_multiple_of(unit).then_some((squares / unit) as u64)
+    }
+
+    /// The terms of the phase polynomial, read off the signs: the polynomial whose value at x is 1 where the sign at x is
+    /// turned. None if it has a term that document 01 does not know.
+    pub fn terms(&self) -> Option<Vec<Gate>> {
+        let mut coefficients: Vec<bool> = self.signs.iter().map(|&sign| sign < 0).collect();
+        for place in 0..3 * self.m {
+            for x in 0..coefficients.len() {
+                if x >> place & 1 == 1 {
+                    coefficients[x] ^= coefficients[x ^ 1 << place];
+                }
+            }
+        }
+        let present = (0..coefficients.len()).filter(|&x| coefficients[x]);
+        present.map(|monomial| self.term(monomial)).collect()
+    }
+
+    /// A product of bits as a `ccz` or `cz`.
+    fn term(&self, monomial: usize) -> Option<Gate> {
+        let places = (0..3 * self.m).filter(|place| monomial >> place & 1 == 1);
+        let spots: Vec<(usize, usize)> = places.map(|p| (p / self.m, p % self.m + 1)).collect();
+        match spots[..] {
+            [(0, red), (1, blue), (2, green)] => Some(Gate::Ccz { red, blue, green }),
+            [(0, i), (1, j)] => Some(cz(Colour::Red, i, Colour::Blue, j)),
+            [(0, i), (2, j)] => Some(cz(Colour::Red, i, Colour::Green, j)),
+            [(1, i), (2, j)] => Some(cz(Colour::Blue, i, Colour::Green, j)),
+            _ => None,
+        }
+    }
+}

@@ -1,0 +1,49 @@
+//! The worked examples in the folder examples/. Two inputs are written by hand, two are made here.
+
+use crate::circuits::{full_rank, hypercube};
+use crate::gates::{COLOURS, Colour, Gate, Strings, layer, spelled};
+
+pub const NAMES: [&str; 4] = ["handover", "hypercube", "readout", "session"];
+
+/// Positions of a colour in the made examples: 48 qubits.
+const M: usize = 16;
+
+fn circuit(layers: &[Vec<Gate>]) -> Vec<String> {
+    let begun = format!("(circuit {M})");
+    [begun]
+        .into_iter()
+        .chain(layers.iter().map(|gates| layer(gates)))
+        .collect()
+}
+
+fn amplitude(sliced: Colour, output: Strings) -> [String; 2] {
+    let opened = format!("(amp {sliced} {})", spelled(M, output));
+    [opened, "(step 65536)".into()]
+}
+
+/// A circuit whose slices on red all have rank 16, so that each is 2^-16 of the largest: an amplitude that is lost where slices are
+/// scaled down before they are added. Every colour is sliced.
+fn handover() -> Vec<String> {
+    let mut lines = circuit(&full_rank(M, 48));
+    for output in [[0; 3], [0x8001, 0x0f0f, 0x3c3c]] {
+        lines.extend(COLOURS.into_iter().flat_map(|colour| amplitude(colour, output)));
+    }
+    lines
+}
+
+/// The circuit of source document 001 on 16 blocks, with some amplitudes and a readout count.
+fn hypercube_session() -> Vec<String> {
+    let mut lines = circuit(&hypercube(4));
+    for output in [[0; 3], [0x0001, 0, 0], [0x8001, 0x8001, 0], [0xffff; 3]] {
+        lines.extend(amplitude(Colour::Red, output));
+    }
+    lines.push(format!("(part g {0} {0})", "0".repeat(M)));
+    lines.push("(step 65536)".into());
+    lines
+}
+
+/// The names and inputs of the made examples.
+pub fn generated() -> [(&'static str, String); 2] {
+    let text = |lines: Vec<String>| lines.iter().map(|line| format!("{line}\n")).collect();
+    [("handover", text(handover())), ("hypercube", text(hypercube_session()))]
+}
