@@ -7,7 +7,6 @@ use lib.Dec.{ltb}
 use lib.ListN.{length, take}
 use Rattle.circuit.specs.declared.Colour.{Colour}
 use Rattle.circuit.specs.declared.Gate.{Gate}
-use Rattle.circuit.specs.declared.Gate.the-variants as Gate
 use Rattle.circuit.specs.Colours.{join, first, second}
 use Rattle.circuit.specs.Polynomial.{polynomial}
 use Rattle.circuit.specs.Listing.{listing}
@@ -18,7 +17,7 @@ use Rattle.lines.specs.declared.Form.the-variants as Form
 use Rattle.answers.specs.declared.Answer.{Answer}
 use Rattle.answers.specs.declared.Answer.the-variants as Answer
 use Rattle.engine.specs.Engine.{Strings, Circuit, Purpose, amplitude, readout, OpenSum, Opened, closed, running, Loaded, absent, present}
-use Rattle.refusals.specs.Refusals.{lineGates, refusalBy}
+use Rattle.refusals.specs.Refusals.{refusalBy}
 
 -- ---- what an accepted line does
 

@@ -1,6 +1,6 @@
 -- What the engine's inner functions promise to each other, on the state of an engine with a circuit or without.
 use mathlib.Core.Bool.{Bool, true, false, cond}
-use mathlib.Core.List.{List, [], _∷_, _++_}
+use mathlib.Core.List.{List, [], _++_}
 use mathlib.Core.Path.{_≡_}
 use Prim.Native.Nat.{ℕ}
 use lib.Dec.{eqb}
@@ -11,7 +11,7 @@ use Rattle.answers.specs.declared.Answer.{Answer}
 use Rattle.engine.specs.declared.Kind.{Kind}
 use Rattle.engine.specs.declared.Kind.the-variants as Kind
 use Rattle.engine.specs.declared.State.{State}
-use Rattle.engine.specs.Engine.{Circuit, Opened, Loaded, present, Engine, SoundCircuit}
+use Rattle.engine.specs.Engine.{Circuit, Opened, present, Engine, SoundCircuit}
 use Rattle.engine.specs.Response.{gatesOf, refusalOf, accepted, acceptedBy, turnOf}
 use Rattle.engine.specs.State.{encodeLoaded, Holds}
 use Rattle.engine.specs.Calls.{refusalNumber, stored}

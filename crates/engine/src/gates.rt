@@ -2,14 +2,14 @@
 ghost use mathlib.Core.Bool.{Bool, true, cond};
 ghost use mathlib.Core.List.{List, [], _∷_, _++_, map};
 ghost use mathlib.Core.Path.{_≡_};
-ghost use Prim.Native.Nat.{ℕ, _+_, _-_, _<_, _≤_};
+ghost use Prim.Native.Nat.{_+_, _-_, _<_, _≤_};
 ghost use lib.Dec.{ltb};
 ghost use lib.ListN.{length, take, set};
 ghost use Rattle.circuit.specs.Sum.{isGate, areGates};
 ghost use Rattle.circuit.specs.History.{codeOf};
 ghost use Rattle.lines.specs.Forms.{formOf};
 ghost use Rattle.lines.specs.Gates.{layerGates};
-ghost use Rattle.engine.specs.Engine.{Circuit, Opened, Loaded, present, Engine};
+ghost use Rattle.engine.specs.Engine.{Circuit, Opened, present};
 ghost use Rattle.refusals.specs.Refusals.{lineGates};
 ghost use Rattle.engine.specs.State.{encodeLoaded};
 ghost use Rattle.engine.specs.Calls.{stored};

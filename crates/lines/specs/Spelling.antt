@@ -7,7 +7,6 @@ use lib.ListN.{length}
 use Rattle.gf2.specs.Strings.{BitString}
 use Rattle.circuit.specs.Colours.{sameColour}
 use Rattle.circuit.specs.declared.Colour.{Colour}
-use Rattle.circuit.specs.declared.Spot.{Spot}
 use Rattle.circuit.specs.declared.Gate.{Gate}
 use Rattle.circuit.specs.declared.Gate.the-variants.{Ccz, Cz, Cnot}
 use Rattle.text.specs.Spelling.{bytes, decimal, letter, bitDigits, spelledGate}

@@ -3,7 +3,7 @@
 use mathlib.Core.Path.{_≡_, refl, ap}
 use mathlib.Core.Bool.{false, cond}
 use mathlib.Core.List.{List}
-use Prim.Native.Nat.{ℕ, suc, _+_, _-_}
+use Prim.Native.Nat.{ℕ, suc, _+_}
 use Rattle.gf2.specs.Words.{highFirst}
 use Rattle.circuit.specs.declared.Gate.{Gate}
 use Rattle.circuit.specs.Sum.{Basis}
