@@ -2,7 +2,7 @@
 use Prim.Native.Nat.{ℕ, _+_}
 use mathlib.Core.Path.{_≡_, refl, ap, sym, _∙_}
 use mathlib.Core.Logic.{_⊎_, inl, inr}
-use mathlib.Core.List.{List, [], _∷_, _++_, append-assoc}
+use mathlib.Core.List.{List, [], _∷_, _++_, append-assoc, append-nil}
 use native.Mathlib.Omega.{arith}
 use lib.ListN.{length, drop, length-append}
 use lib.Seq.{drop-append-seam, take-append-seam}
@@ -113,6 +113,10 @@ gate-read (Ccz i j k) rest = ccz-read (spelledGate (Ccz i j k) ++ rest) 5 i j k 
 gate-read (Cz p q) rest = cz-read (spelledGate (Cz p q) ++ rest) 4 p q rest (ap (drop 4) (cz-items p q rest)) ∙ ap (GateRead (heldGate (Cz p q))) (omega arith)
 gate-read (Cnot C c t) rest = cnot-read (spelledGate (Cnot C c t) ++ rest) 6 C c t rest (ap (drop 6) (cnot-items C c t rest)) ∙ ap (GateRead (heldGate (Cnot C c t))) (omega arith)
 
+none-read : readGate [] ≡ NoGate
+unfolding readGate readKeyword begins
+none-read = refl
+
 -- "each as a part of the line itself, brackets included"
 pub gate-part : (g : Gate) (rest : List ℕ) → gatePart (spelledGate g ++ rest) ≡ spelledGate g
 unfolding gatePart gateEnd
@@ -181,7 +185,7 @@ module _ (l : List ℕ) where
       (keyword-cases Front l 0 _ (bytes "(cz ") _ (keyword-cases Front l 0 _ (bytes "(cnot ") _ none cnot-front) cz-front)
       ccz-front
 
--- A gate was read exactly if its spelling stands at the front.
+-- The gate that was read stands spelled at the front.
 pub record GateStands (l : List ℕ) (g : Gate) (n : ℕ) : Type 0 where
   pub gate : Gate
   pub holds : g ≡ heldGate gate
@@ -199,6 +203,14 @@ gate-stands l g n h = go (gate-or-none l)
         let d : drop n l ≡ f .rest = ap (λ (m : ℕ). drop m l) p ∙ ap (drop (length (spelledGate (f .gate)))) (f .is) ∙ drop-append-seam (spelledGate (f .gate)) (f .rest) in
         record { gate = f .gate; holds = cc; place = p; is = f .is ∙ ap (λ (x : List ℕ). spelledGate (f .gate) ++ x) (sym d) }
 
-pub gate-stands-read : (l : List ℕ) (g : Gate) (n : ℕ) → GateStands l g n → readGate l ≡ GateRead g n
-gate-stands-read l g n s =
-    ap readGate (s .is) ∙ gate-read (s .gate) (drop n l) ∙ cc
+-- The part that is handed on is read as the same gate.
+pub gatePart-read : (l : List ℕ) → readGate (gatePart l) ≡ readGate l
+unfolding gatePart gateEnd
+gatePart-read l = go (gate-or-none l)
+  where
+    part-is : (f : GateFront l) → gatePart l ≡ spelledGate (f .gate) ++ []
+    part-is f = ap gatePart (f .is) ∙ gate-part (f .gate) (f .rest) ∙ sym (append-nil (spelledGate (f .gate)))
+
+    go : (readGate l ≡ NoGate) ⊎ GateFront l → readGate (gatePart l) ≡ readGate l
+    go (inl e) = rw e none-read
+    go (inr f) = ap readGate (part-is f) ∙ gate-read (f .gate) [] ∙ sym (gate-read (f .gate) (f .rest)) ∙ sym (ap readGate (f .is))
