@@ -8,7 +8,6 @@ pub mod GateLists
 pub mod GateHistory
 pub mod GateStates
 pub mod GateTaken
-pub mod GateLayer
 pub mod SumState
 pub mod SumLaws
 pub mod TurnLaws

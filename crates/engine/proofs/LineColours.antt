@@ -1,10 +1,8 @@
 -- The gates of a line that is read have no `cz` with one colour twice: such a line is read as refusal 5.
 use mathlib.Core.Path.{_≡_, refl, ap, _∙_}
-use mathlib.Core.Logic.{_⊎_, inl, inr}
 use mathlib.Core.Bool.{Bool, true, false, cond}
 use mathlib.Core.List.{List, [], _∷_, map}
 use Prim.Native.Nat.{ℕ}
-use lib.Dec.{ltb}
 use lib.ListN.{length}
 use Rattle.circuit.specs.declared.Gate.{Gate}
 use Rattle.circuit.specs.declared.Gate.the-variants as Gate
@@ -12,9 +10,9 @@ use Rattle.lines.specs.declared.Form.{Form}
 use Rattle.lines.specs.declared.Form.the-variants as Form
 use Rattle.lines.specs.Spelling.{Typed, circuit, gate, layer, undo, start, amp, part, step, drop, terms, spelled, colourTwice, anyColourTwice, twiceIn, heldGate, gateForm, held}
 use Rattle.lines.specs.Gates.{layerGates}
-use Rattle.lines.specs.Forms.{allAllowed, shapeOf, formOf}
+use Rattle.lines.specs.Forms.{formOf}
 use Rattle.lines.proofs.LayerSpelling.{held-twice}
-use Rattle.lines.proofs.FormReading.{readAs, Spelling, read-spelled, spelled-read, layer-gates}
+use Rattle.lines.proofs.FormReading.{readAs, form-cases, layer-gates}
 use Rattle.refusals.specs.Refusals.{lineGates}
 
 held-colours : (gs : List Gate) → anyColourTwice (map heldGate gs) ≡ anyColourTwice gs
@@ -53,19 +51,6 @@ module _ (l : List ℕ) where
   spelled-colours drop e = refl
   spelled-colours terms e = refl
 
-  shape-colours : Different (shapeOf l)
-  unfolding lineGates anyColourTwice
-  shape-colours = go (spelled-read l)
-    where
-      go : (shapeOf l ≡ Form.Refused 4) ⊎ Spelling l → Different (shapeOf l)
-      go (inl e) = rw e
-      go (inr s) = rw (ap shapeOf (s .is) ∙ read-spelled (s .typed) (s .well)) (spelled-colours (s .typed) (s .is))
-
   pub line-colours : anyColourTwice (lineGates (formOf l) l) ≡ false
-  unfolding formOf lineGates anyColourTwice
-  line-colours = go (ltb 1024 (length l)) (allAllowed l)
-    where
-      go : (p q : Bool) → Different (cond p (Form.Refused 2) (cond q (shapeOf l) (Form.Refused 3)))
-      go true q = refl
-      go false true = shape-colours
-      go false false = refl
+  unfolding lineGates anyColourTwice
+  line-colours = form-cases Different l (λ n. refl) (λ s. spelled-colours (s .typed) (s .is))

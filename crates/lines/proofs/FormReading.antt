@@ -163,6 +163,20 @@ read-refused t n h = go (twiceIn t) h
 shape-spelled : (l : List ℕ) (s : Spelling l) → shapeOf l ≡ readAs (s .typed)
 shape-spelled l s = ap shapeOf (s .is) ∙ read-spelled (s .typed) (s .well)
 
+-- A line is read as a refusal, or it is a spelling and read as that is.
+pub form-cases : (P : Form → Type 0) (l : List ℕ) → ((n : ℕ) → P (Form.Refused n)) → ((s : Spelling l) → P (readAs (s .typed))) → P (formOf l)
+unfolding formOf
+form-cases P l refused read = go (ltb 1024 (length l)) (allAllowed l)
+  where
+    shape : (shapeOf l ≡ Form.Refused 4) ⊎ Spelling l → P (shapeOf l)
+    shape (inl e) = rw e (refused 4)
+    shape (inr s) = rw (shape-spelled l s) (read s)
+
+    go : (long allowed : Bool) → P (cond long (Form.Refused 2) (cond allowed (shapeOf l) (Form.Refused 3)))
+    go true allowed = refused 2
+    go false true = shape (spelled-read l)
+    go false false = refused 3
+
 shape-refused : (l : List ℕ) (n : ℕ) → shapeOf l ≡ Form.Refused n → 4 ≤ n
 shape-refused l n h = go (spelled-read l)
   where

@@ -1,7 +1,6 @@
 -- A line that is read as a layer of n gates spells n gates, and they are what the line hands on.
 use Prim.Native.Nat.{ℕ}
 use mathlib.Core.Path.{_≡_, refl, ap, sym, _∙_}
-use mathlib.Core.Logic.{_⊎_, inl, inr}
 use mathlib.Core.Bool.{Bool, true, false, cond}
 use mathlib.Core.List.{List, map}
 use lib.ListN.{length, length-map}
@@ -11,8 +10,8 @@ use Rattle.lines.specs.declared.Form.{Form}
 use Rattle.lines.specs.declared.Form.the-variants as Form
 use Rattle.lines.specs.Spelling.{Typed, circuit, gate, layer, undo, start, amp, part, step, drop as dropped, terms, spelled, colourTwice, anyColourTwice, twiceIn, heldGate, gateForm, held}
 use Rattle.lines.specs.Gates.{layerGates}
-use Rattle.lines.specs.Forms.{shapeOf}
-use Rattle.lines.proofs.FormReading.{readAs, Spelling, read-spelled, spelled-read, layer-gates}
+use Rattle.lines.specs.Forms.{formOf}
+use Rattle.lines.proofs.FormReading.{readAs, form-cases, layer-gates}
 use Rattle.text.proofs.Decimal.{never}
 
 pub record LayerLine (l : List ℕ) (n : ℕ) : Type 0 where
@@ -47,14 +46,11 @@ module _ (l : List ℕ) (n : ℕ) where
   spelled-layer dropped e h = never (cc)
   spelled-layer terms e h = never (cc)
 
-  pub layer-line : shapeOf l ≡ Form.Layer n → LayerLine l n
-  layer-line h = go (spelled-read l)
-    where
-      go : (shapeOf l ≡ Form.Refused 4) ⊎ Spelling l → LayerLine l n
-      go (inl e) = never (cc)
-      go (inr s) = spelled-layer (s .typed) (s .is) (sym (ap shapeOf (s .is) ∙ read-spelled (s .typed) (s .well)) ∙ h)
+  pub layer-line : formOf l ≡ Form.Layer n → LayerLine l n
+  layer-line h = form-cases (λ (f : Form). f ≡ Form.Layer n → LayerLine l n) l (λ e k. never (cc)) (λ s k. spelled-layer (s .typed) (s .is) k) h
 
-  pub layer-count : shapeOf l ≡ Form.Layer n → length (layerGates l) ≡ n
+  -- The form of a layer line counts its gates.
+  pub layer-count : formOf l ≡ Form.Layer n → length (layerGates l) ≡ n
   layer-count h =
       let r = layer-line h in
       ap length (r .handed) ∙ length-map (r .gates) heldGate ∙ sym (r .count)

@@ -2,7 +2,7 @@
 use Prim.Native.Nat.{ℕ, zero, suc, _+_}
 use mathlib.Core.Path.{_≡_, refl, ap, ap₂, sym, _∙_}
 use mathlib.Core.Logic.{_⊎_, inl, inr}
-use mathlib.Core.Bool.{Bool, true, false, cond, _||_}
+use mathlib.Core.Bool.{Bool, true, false, cond, _||_, or-assoc, or-false}
 use mathlib.Core.List.{List, [], _∷_, _++_, map, append-assoc}
 use native.Mathlib.Omega.{arith}
 use native.Mathlib.Nat.{add-zero}
@@ -20,17 +20,12 @@ use Rattle.lines.specs.declared.GateAt.the-variants.{Read as GateRead, M
 use Rattle.lines.specs.Spelling.{spelledGates, colourTwice, anyColourTwice, heldGate}
 use Rattle.lines.specs.Gates.{withGate, readGate, gatesFrom}
 use Rattle.lines.specs.Forms.{layerFrom}
+use Rattle.lines.proofs.Scanning.{layer-skip}
 use Rattle.lines.proofs.GateSpelling.{gate-read, GateStands, gate-stands}
 
 -- ---- what is spelled is read
 
-layer-skip : (skip n : ℕ) (twice : Bool) (l : List ℕ) → layerFrom skip n twice l ≡ layerFrom 0 n twice (drop skip l)
-unfolding layerFrom
-layer-skip zero n twice l = refl
-layer-skip (suc skip) n twice [] = refl
-layer-skip (suc skip) n twice (x ∷ xs) = layer-skip skip n twice xs
-
-gates-skip : (skip : ℕ) (l : List ℕ) → gatesFrom skip l ≡ gatesFrom 0 (drop skip l)
+pub gates-skip : (skip : ℕ) (l : List ℕ) → gatesFrom skip l ≡ gatesFrom 0 (drop skip l)
 unfolding gatesFrom
 gates-skip zero l = refl
 gates-skip (suc skip) [] = refl
@@ -42,14 +37,6 @@ unfolding colourTwice heldGate
 held-twice (Ccz i j k) = refl
 held-twice (Cz p q) = refl
 held-twice (Cnot C c t) = refl
-
-or-assoc : (p q r : Bool) → (p || q) || r ≡ p || (q || r)
-or-assoc true q r = refl
-or-assoc false q r = refl
-
-or-false : (p : Bool) → p || false ≡ p
-or-false true = refl
-or-false false = refl
 
 pub layer-read : (gs : List Gate) (n : ℕ) (twice : Bool)
     → layerFrom 0 n twice (spelledGates gs ++ bytes ")") ≡ cond (twice || anyColourTwice gs) (Form.Refused 5) (Form.Layer (n + length gs))

@@ -1,14 +1,12 @@
 -- The strings of the book are the strings of the lines: a bit string of at most 16 digits is held exactly, and a line that is read as a
 -- `part` spells it with these strings.
 use mathlib.Core.Path.{_≡_, refl, ap, ap₂, sym, _∙_, subst}
-use mathlib.Core.Logic.{_⊎_, inl, inr}
 use mathlib.Core.Bool.{Bool, true, false, cond}
 use mathlib.Core.List.{List, [], _∷_}
 use Prim.Native.Nat.{ℕ, _+_, _*_, _/_, _^_, _≤_, _<_}
 use native.Mathlib.Nat.{lt-of-lt-of-le, zero-add, div-eq-of-lt, add-mul-div-right, mod-eq-of-lt, pow-suc}
 use native.Mathlib.Omega.{arith}
 use lib.ListN.{length}
-use lib.Dec.{ltb}
 use lib.Pow.{pow-pos, pow-mono}
 use Rattle.gf2.specs.Strings.{BitString}
 use Rattle.gf2.specs.Words.{bitOf, odd, highFirst}
@@ -21,8 +19,8 @@ use Rattle.text.proofs.Decimal.{never as impossible}
 use Rattle.lines.specs.declared.Form.{Form}
 use Rattle.lines.specs.declared.Form.the-variants as Form
 use Rattle.lines.specs.Spelling.{Typed, circuit, gate, layer, undo, start, amp, part, step, drop, terms, spelled, colourTwice, anyColourTwice, twiceIn, heldGate, gateForm, held}
-use Rattle.lines.specs.Forms.{allAllowed, shapeOf, formOf}
-use Rattle.lines.proofs.FormReading.{readAs, Spelling, read-spelled, spelled-read}
+use Rattle.lines.specs.Forms.{formOf}
+use Rattle.lines.proofs.FormReading.{readAs, form-cases}
 use Rattle.text.specs.Spelling.{numberFrom, numberOfBits}
 use Rattle.text.specs.Reading.{heldBits}
 use Rattle.runs.specs.Runs.{typed}
@@ -116,17 +114,6 @@ module _ (l : List ℕ) (C : Colour) (x y : Bits) where
 
   -- A line that is read as a `part` is "(part C X Y)" with the strings that the book notes.
   pub part-line : formOf l ≡ Form.Part C x y → x .len ≤ 16 → y .len ≤ 16 → l ≡ spelled (part C (typed x) (typed y))
-  unfolding formOf
-  part-line h p q = whole (ltb 1024 (length l)) (allAllowed l) h
-    where
-      shape : (shapeOf l ≡ Form.Refused 4) ⊎ Spelling l → shapeOf l ≡ Form.Part C x y → l ≡ spelled (part C (typed x) (typed y))
-      shape (inl e) h = impossible (cc)
-      shape (inr s) h =
-          s .is ∙ spelled-part (s .typed) (sym (ap shapeOf (s .is) ∙ read-spelled (s .typed) (s .well)) ∙ h) p q
-
-      whole :
-          (a b : Bool) → cond a (Form.Refused 2) (cond b (shapeOf l) (Form.Refused 3)) ≡ Form.Part C x y →
-          l ≡ spelled (part C (typed x) (typed y))
-      whole true b h = impossible (cc)
-      whole false true h = shape (spelled-read l) h
-      whole false false h = impossible (cc)
+  part-line h p q =
+      form-cases (λ (f : Form). f ≡ Form.Part C x y → l ≡ spelled (part C (typed x) (typed y))) l (λ n k. impossible (cc))
+      (λ s k. s .is ∙ spelled-part (s .typed) k p q) h

@@ -1,39 +1,14 @@
 -- The gates of a line are its one gate, those of its layer, or none.
-use Prim.Native.Nat.{ℕ}
-use mathlib.Core.Path.{_≡_, refl, sym, _∙_}
-use mathlib.Core.List.{List, [], _∷_}
+use mathlib.Core.Path.{sym, _∙_}
 use native.Mathlib.Omega.{arith}
 use denote.Ref.{now}
-use denote.Enum.Declared.{tagOf}
-use types.Run.{OneOf, miss}
-use Rattle.lines.specs.declared.Form.{Form}
-use Rattle.lines.specs.declared.Form.the-variants as Form
-use Rattle.lines.proofs.Form.{the-type}
+use Rattle.lines.proofs.LayerLine.{layer-count}
 use Rattle.refusals.specs.Refusals.{lineGates}
+use Rattle.refusals.proofs.RefusalLaws.{no-gates}
 use Rattle.engine.proofs.GateTaken.{none-taken, one-taken}
-use Rattle.engine.proofs.GateLayer.{layer-length}
 use borrow.Author.Needs.{needs}
 use Rattle.engine.proofs.gates.take_gates.Statement.{statement}
 use Rattle.engine.proofs.gates.take_gates.Tie as tie
-
-abbrev others : List ℕ
-others = 0 ∷ 5 ∷ 6 ∷ 7 ∷ 8 ∷ 9 ∷ 10 ∷ 11 ∷ 12 ∷ []
-
-no-gates : (form : Form) (l : List ℕ) → OneOf others (tagOf the-type form) → lineGates form l ≡ []
-unfolding lineGates
-no-gates (Form.Circuit m) l h = refl
-no-gates (Form.Ccz i j k) l h = absurd (miss others 1 tt h)
-no-gates (Form.Cz p q) l h = absurd (miss others 2 tt h)
-no-gates (Form.Cnot C c t) l h = absurd (miss others 3 tt h)
-no-gates (Form.Layer n) l h = absurd (miss others 4 tt h)
-no-gates (Form.Undo k) l h = refl
-no-gates (Form.Start r b g) l h = refl
-no-gates (Form.Amp C r b g) l h = refl
-no-gates (Form.Part C x y) l h = refl
-no-gates (Form.Step k) l h = refl
-no-gates Form.Drop l h = refl
-no-gates Form.Terms l h = refl
-no-gates (Form.Refused e) l h = refl
 
 enum-known-form : tie.Need-enum-known-form
 enum-known-form c = search needs
@@ -88,13 +63,13 @@ unfolding lineGates
 returns-4 c =
     let start = c .before .before .before .before .before .before .before .before .before in
     let form = c .before .before .before .before .before .form4 .given in
-    let count = layer-length (now (start .args .line)) (form .0 .0) (sym (start .pre) ∙ form .1) in
+    let count = layer-count (now (start .args .line)) (form .0 .0) (sym (start .pre) ∙ form .1) in
     rw (form .1) (λ k o b is v room. c .before .before .take-layer .ensures k o b is v (omega arith))
 
 returns-5 : tie.Need-returns-5
 returns-5 c =
     let start = c .before .before .before in
-    rw (no-gates (start .args .form) (now (start .args .line)) (c .match .keys5)) (λ k o b is v room. none-taken k o b _ _ is)
+    rw (no-gates (start .args .form) (c .match .keys5) (now (start .args .line))) (λ k o b is v room. none-taken k o b _ _ is)
 
 pub take-gates-spec : {M : Type 1} → statement M
 take-gates-spec =

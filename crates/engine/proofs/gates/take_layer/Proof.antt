@@ -1,18 +1,23 @@
 -- After i turns the layer's first i gates are taken, in the state and in the history, and the others stand in the line from `at` on.
-use Prim.Native.Nat.{_+_, _-_, _≤_}
-use mathlib.Core.Path.{_≡_, refl, sym, _∙_}
+use Prim.Native.Nat.{ℕ, suc, _+_, _-_, _≤_, _<_}
+use mathlib.Core.Path.{_≡_, refl, ap, sym, _∙_}
 use mathlib.Core.Bool.{Bool, true}
+use mathlib.Core.List.{List, _∷_}
+use native.Mathlib.Numerals.{add-one}
 use native.Mathlib.Omega.{arith}
 use denote.Ref.{now}
-use lib.ListN.{length, take, drop}
-use lib.Seq.{length-take-le, take-all}
+use lib.ListN.{length, getD, take, drop, length-drop}
+use lib.Seq.{length-take-le, take-all, drop-cons}
+use Rattle.circuit.specs.declared.Gate.{Gate}
 use Rattle.circuit.specs.Sum.{areGates}
-use Rattle.lines.specs.Gates.{layerGates, gatesAt}
+use Rattle.lines.specs.declared.GateAt.the-variants.{Read as GateRead}
+use Rattle.lines.specs.Gates.{layerGates, gatesAt, layerGateAt}
+use Rattle.lines.proofs.LayerLine.{layer-count}
+use Rattle.lines.proofs.LayerWalk.{layer-begins, gate-next, gates-end}
 use Rattle.engine.specs.Engine.{Circuit, Opened, present}
 use Rattle.engine.specs.State.{encodeLoaded}
-use Rattle.engine.proofs.GateLists.{gate-at, first-gates}
+use Rattle.engine.proofs.GateLists.{noGate, gate-at, first-gates}
 use Rattle.engine.proofs.GateTaken.{TakenOnto, none-taken, one-more}
-use Rattle.engine.proofs.GateLayer.{layer-length, layer-start, layer-next, layer-found}
 use borrow.Author.Needs.{needs}
 use Rattle.engine.proofs.gates.take_layer.Statement.{statement}
 use Rattle.engine.proofs.gates.take_layer.Tie as tie
@@ -25,11 +30,18 @@ Inv-loop history₀ line n next₀ at₀ i₀ history next at i =
     ((c : Circuit) (o : Opened) (b : Bool) → next₀ ≡ encodeLoaded (present c o) b → areGates 16 (layerGates line) ≡ true → length (c .gates) + n ≤ length history₀
     → TakenOnto c o b history₀ (take i (layerGates line)) next history)
 
+-- The gate read is the layer's next one, and the others stand behind it.
+gate-met : (l : List ℕ) (at i : ℕ) → i < length (layerGates l) → gatesAt l at ≡ drop i (layerGates l) → (g : Gate) (next : ℕ)
+    → layerGateAt l at ≡ GateRead g next → (g ≡ getD (layerGates l) i noGate) × (gatesAt l next ≡ drop (i + 1) (layerGates l))
+gate-met l at i k here g next r =
+    let both : g ∷ gatesAt l next ≡ getD (layerGates l) i noGate ∷ drop (suc i) (layerGates l) = sym (gate-next l at g next r) ∙ here ∙ drop-cons (layerGates l) i noGate k in
+    (cc, rw add-one (cc))
+
 abbrev μ-loop : tie.MeasureT-loop
 μ-loop history₀ line n next₀ at₀ i₀ history next at i = n - i
 
 loop-holds : tie.Need-loop-holds Inv-loop μ-loop
-loop-holds c = (layer-start _, search needs, refl, λ k o b is v room. none-taken k o b _ _ is)
+loop-holds c = (layer-begins _, search needs, refl, λ k o b is v room. none-taken k o b _ _ is)
 
 layer-gate-requires : tie.Need-layer-gate-requires Inv-loop μ-loop
 layer-gate-requires c κs = search needs
@@ -47,8 +59,10 @@ returns : tie.Need-returns Inv-loop μ-loop
 returns c =
     let start = c .before .before .before .before .before .before .before in
     let loop = c .before .before .before .before .loop in
-    let count = layer-length (now (start .args .line)) (start .args .n) (start .pre) in
-    layer-found (now (start .args .line)) (loop .at) (loop .i) (omega arith) (loop .inv .0) (sym (c .before .before .layer-gate .ensures) ∙ c .enum-told .given .1)
+    let l = now (start .args .line) in
+    let count = layer-count l (start .args .n) (start .pre) in
+    let none = gates-end l (loop .at) (sym (c .before .before .layer-gate .ensures) ∙ c .enum-told .given .1) in
+    absurd (omega (arith, length-drop (loop .i) (layerGates l), ap length (sym (loop .inv .0) ∙ none)))
 
 take-gate-requires : tie.Need-take-gate-requires Inv-loop μ-loop
 take-gate-requires c κs = search needs
@@ -65,8 +79,8 @@ loop-again c =
     let loop = c .before .before .before .before .before .before .before .before .before .loop in
     let l = now (start .args .line) in
     let read = c .before .before .before .before .before .gate .given in
-    let count = layer-length l (start .args .n) (start .pre) in
-    let w = layer-next l (loop .at) (loop .i) (omega arith) (loop .inv .0) (read .0 .0) (read .0 .1 .0) (sym (c .before .before .before .before .before .before .before .layer-gate .ensures) ∙ read .1) in (
+    let count = layer-count l (start .args .n) (start .pre) in
+    let w = gate-met l (loop .at) (loop .i) (omega arith) (loop .inv .0) (read .0 .0) (read .0 .1 .0) (sym (c .before .before .before .before .before .before .before .layer-gate .ensures) ∙ read .1) in (
       w .1,
       search needs,
       c .before .before .take-gate .kept .1 .0 ∙ loop .inv .2,
@@ -87,7 +101,7 @@ returns-2 : tie.Need-returns-2 Inv-loop μ-loop
 returns-2 c =
     let start = c .before .before .before .before in
     let l = now (start .args .line) in
-    let count = layer-length l (start .args .n) (start .pre) in
+    let count = layer-count l (start .args .n) (start .pre) in
     let e : c .before .loop .i ≡ length (layerGates l) = omega arith in
     λ k o b is v room. rw (← take-all (c .before .loop .i) (layerGates l) (omega arith)) (c .before .loop .inv .3 k o b is v room)
 

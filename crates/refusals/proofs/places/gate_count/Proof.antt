@@ -1,8 +1,8 @@
 -- A gate line has one gate, a layer as many as its form says, every other form none.
 use mathlib.Core.Path.{sym, _∙_}
+use Rattle.lines.proofs.LayerLine.{layer-count}
 use Rattle.refusals.specs.Refusals.{lineGates}
 use Rattle.refusals.proofs.RefusalLaws.{no-gates}
-use Rattle.refusals.proofs.LayerSteps.{layer-size}
 use borrow.Author.Needs.{needs}
 use Rattle.refusals.proofs.places.gate_count.Statement.{statement}
 use Rattle.refusals.proofs.places.gate_count.Tie as tie
@@ -33,7 +33,7 @@ returns-3 c = λ l h. rw (c .enum-told3 .given .1)
 
 returns-4 : tie.Need-returns-4
 unfolding lineGates
-returns-4 c = λ l h. rw (c .before .form .given .1) (sym (layer-size l _ (sym h ∙ c .before .form .given .1)))
+returns-4 c = λ l h. rw (c .before .form .given .1) (sym (layer-count l _ (sym h ∙ c .before .form .given .1)))
 
 returns-5 : tie.Need-returns-5
 returns-5 c = λ l h. rw (no-gates _ (c .match .keys5) l)

@@ -5,10 +5,12 @@ use mathlib.Core.Bool.{_&&_, _||_, and-true, and-assoc, or-false, or-assoc}
 use mathlib.Core.Logic.{⊎-elim}
 use native.Mathlib.Omega.{arith}
 use lib.ListN.{length}
+use lib.Seq.{take-all}
 use denote.Ref.{now}
 use Rattle.lines.specs.Gates.{layerGates, gatesAt}
 use Rattle.refusals.specs.Refusals.{inRange, onItself, allInRange, anyOnItself}
-use Rattle.refusals.proofs.LayerSteps.{layer-size, from-start, next-gate, gate-found, none-left}
+use Rattle.lines.proofs.LayerLine.{layer-count}
+use Rattle.lines.proofs.LayerWalk.{layer-begins, gate-next, gates-end}
 use borrow.Author.Needs.{needs}
 use Rattle.refusals.proofs.places.layer_checked.Statement.{statement}
 use Rattle.refusals.proofs.places.layer_checked.Tie as tie
@@ -25,7 +27,7 @@ abbrev μ-loop : tie.MeasureT-loop
 loop-holds : tie.Need-loop-holds Inv-loop μ-loop
 loop-holds c =
     let l = now (c .before .args .line) in
-    (omega (arith, ap length (from-start l), layer-size l _ (c .before .pre)), ap (allInRange _) (from-start l), ap anyOnItself (from-start l))
+    (omega (arith, ap length (layer-begins l), layer-count l _ (c .before .pre)), ap (allInRange _) (layer-begins l), ap anyOnItself (layer-begins l))
 
 layer-gate-requires : tie.Need-layer-gate-requires Inv-loop μ-loop
 layer-gate-requires c κs = search needs
@@ -38,9 +40,8 @@ enum-told c = search needs
 
 returns : tie.Need-returns Inv-loop μ-loop
 returns c =
-    absurd
-    (gate-found _ _ _ _ (c .before .before .before .before .loop .inv .0) (c .before .before .before .loop-test .taken)
-    (sym (c .before .before .layer-gate .ensures) ∙ c .enum-told .given .1))
+    let none = gates-end _ _ (sym (c .before .before .layer-gate .ensures) ∙ c .enum-told .given .1) in
+    absurd (omega (arith, ap length none, c .before .before .before .before .loop .inv .0, c .before .before .before .loop-test .taken))
 
 gate-checked-requires : tie.Need-gate-checked-requires Inv-loop μ-loop
 gate-checked-requires c κs = search needs
@@ -58,7 +59,7 @@ loop-again c =
     let loop = c .before .before .before .before .before .before .before .before .loop in
     let gate = c .before .before .before .before .gate .given in
     let read = sym (c .before .before .before .before .before .before .layer-gate .ensures) ∙ gate .1 in
-    let next = next-gate _ _ _ _ (loop .inv .0) _ _ (c .before .before .before .before .before .before .before .loop-test .taken) read in
+    let next = gate-next _ _ _ _ read in
     let checked = c .before .before .gate-checked .ensures in
     let inside : c .before .if1 .inside ≡ (loop .inside && inRange (start .args .m) (gate .0 .0)) =
     ⊎-elim (λ w. rw (w .0 .taken) (w .1 ∙ checked .0)) (λ w. rw (w .0 .left) (w .1 ∙ w .0 .left)) (c .before .if1 .came) in
@@ -70,7 +71,7 @@ returns-2 : tie.Need-returns-2 Inv-loop μ-loop
 unfolding allInRange anyOnItself
 returns-2 c =
     let inv = c .before .loop .inv in
-    let none = none-left _ _ _ _ (inv .0) (c .loop-test .left) in
+    let none = sym (take-all 0 (gatesAt (now (c .before .before .before .args .line)) (c .before .loop .at)) (omega (arith, inv .0, c .loop-test .left))) in
     (sym (and-true _) ∙ (rw none at (inv .1)), sym (or-false _) ∙ (rw none at (inv .2)))
 
 pub layer-checked-spec : {M : Type 1} → statement M
