@@ -1,20 +1,18 @@
 -- The cells, one after the other, are the listing of 16 positions.
 use mathlib.Core.Path.{_≡_, refl, sym, _∙_, ap, ap₂}
-use mathlib.Core.Bool.{Bool, true, false, cond, _&&_}
+use mathlib.Core.Bool.{Bool, true, false, cond, _&&_, and-false, and-true}
 use mathlib.Core.List.{List, [], _∷_, _++_, append-nil, map, map-append}
 use Prim.Native.Nat.{ℕ, zero, suc, _+_, _*_, _-_, _/_, _%_, _^_, _≤_, _<_}
 use native.Mathlib.Numerals.{add-one}
 use native.Mathlib.Omega.{arith}
-use lib.Bits.{bitAnd, and-shr, and-le-r}
+use lib.Bits.{bitAnd, and-le-r}
 use lib.Count.{ones}
 use lib.Dec.{eqb, ltb, eqb·suc-zero}
 use lib.ListN.{length, getD, length-append, length-map, List·getD-map}
 use borrow.Author.Tests.{ltb-true, lt-ltb, le-ltb}
 use Rattle.gf2.specs.Words.{bitOf, odd, bitAt, wordOf, tabulate}
-use Rattle.gf2.proofs.Bits.{and-false, and-true}
-use Rattle.gf2.proofs.Digits.{odd-and}
 use Rattle.gf2.proofs.Tables.{getD-tabulate}
-use Rattle.gf2.proofs.WordBits.{bitAt-wordOf-lt, bitAt-pow}
+use Rattle.gf2.proofs.WordBits.{bitAt-wordOf-lt, bitAt-pow, bitAt-and}
 use Rattle.circuit.specs.declared.Colour.the-variants.{Red, Blue, Green}
 use Rattle.circuit.specs.declared.Entry.the-variants.{Listed, Nothing}
 use Rattle.circuit.specs.Colours.{join}
@@ -23,6 +21,7 @@ use Rattle.circuit.specs.Listing.{overPositions, triples, pairsBeside, e
 use Rattle.circuit.specs.Words.{wordsOf}
 use Rattle.circuit.specs.Cells.{concatBelow, marked, cellRed, cellBlue, cellMask, cellWord, cellTerms}
 use Rattle.circuit.proofs.Concat.{concatBelow-cong, concatBelow-add, concatBelow-rows, concatBelow-inside, marked-cong, ones-marked}
+use Rattle.circuit.proofs.PolynomialWords.{word-at}
 use Rattle.circuit.proofs.Entries.{among-append, entryOf-front, entryOf-behind, entryOf-past, entryOf-getD}
 
 -- ---- listings of parts
@@ -121,22 +120,12 @@ entry-here words at left h =
 
 -- ---- a cell of a polynomial's words
 
-getD-words : (f : Polynomial) (i j : ℕ) → i ≤ 16 → j ≤ 16 → getD (wordsOf f) (17 * i + j) 0 ≡ wordOf 17 (λ k. f (term i j k))
-unfolding wordsOf
-getD-words f i j hi hj =
-    getD-tabulate 289 (λ w. wordOf 17 (λ k. f (term (w / 17) (w % 17) k))) (17 * i + j) 0 (omega arith)
-    ∙ ap₂ (λ (a b : ℕ). wordOf 17 (λ k. f (term a b k))) (omega arith) (omega arith)
-
-bitAt-and : (a b k : ℕ) → bitAt (bitAnd a b) k ≡ bitAt a k && bitAt b k
-unfolding bitAt
-bitAt-and a b k = ap odd (and-shr a b k) ∙ odd-and (a / 2 ^ k) (b / 2 ^ k)
-
 cell-at : (f : Polynomial) (n i j mask : ℕ) → cellRed n ≡ i → cellBlue n ≡ j → cellMask n ≡ mask → i ≤ 16 → j ≤ 16
     → cellTerms (wordsOf f) n ≡ map (term i j) (marked 17 (λ k. f (term i j k) && bitAt mask k))
 unfolding cellTerms cellWord
 cell-at f n i j mask p q r hi hj =
     ap₂ (λ (a b : ℕ). map (term a b) (marked 17 (bitAt (bitAnd (getD (wordsOf f) (17 * a + b) 0) (cellMask n))))) p q
-    ∙ ap₂ (λ (w x : ℕ). map (term i j) (marked 17 (bitAt (bitAnd w x)))) (getD-words f i j hi hj) r
+    ∙ ap₂ (λ (w x : ℕ). map (term i j) (marked 17 (bitAt (bitAnd w x)))) (word-at f i j hi hj) r
     ∙ ap (map (term i j)) (marked-cong 17 (bitAt (bitAnd (wordOf 17 g) mask)) (λ k. g k && bitAt mask k)
     (λ k h. bitAt-and (wordOf 17 g) mask k ∙ ap (λ b. b && bitAt mask k) (bitAt-wordOf-lt 17 g k h)))
   where

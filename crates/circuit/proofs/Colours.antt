@@ -3,6 +3,7 @@ use mathlib.Core.Path.{_≡_, refl}
 use mathlib.Core.Bool.{false, cond}
 use Prim.Native.Nat.{ℕ, zero, suc, _+_, _≤_, _<_}
 use native.Mathlib.Omega.{arith}
+use Rattle.gf2.proofs.Impossible.{never}
 use Rattle.circuit.specs.declared.Colour.{Colour}
 use Rattle.circuit.specs.declared.Colour.the-variants.{Red, Blue, Green}
 use Rattle.circuit.specs.Colours.{Three, numberOf, colourOf, thirdOf, sameColour, the, first, second, join, put}
@@ -31,9 +32,9 @@ third-beside Blue Red h = record { less-both = refl; not-first = refl; not-secon
 third-beside Blue Green h = record { less-both = refl; not-first = refl; not-second = refl }
 third-beside Green Red h = record { less-both = refl; not-first = refl; not-second = refl }
 third-beside Green Blue h = record { less-both = refl; not-first = refl; not-second = refl }
-third-beside Red Red h = let z : _≡_ {A = ℕ} 0 1 = cc in absurd (omega arith)
-third-beside Blue Blue h = let z : _≡_ {A = ℕ} 0 1 = cc in absurd (omega arith)
-third-beside Green Green h = let z : _≡_ {A = ℕ} 0 1 = cc in absurd (omega arith)
+third-beside Red Red h = never (cc)
+third-beside Blue Blue h = never (cc)
+third-beside Green Green h = never (cc)
 
 -- What a colour has after something was put: that thing, where it was put for the colour itself.
 pub the-put : {A : Type 0} (C D : Colour) (z : A) (x : Three A) → the C (put D z x) ≡ cond (sameColour C D) z (the C x)

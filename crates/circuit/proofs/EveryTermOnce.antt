@@ -1,6 +1,6 @@
 -- "every term once" and nothing else: a listing has a term of the polynomial once and any other not at all.
 use mathlib.Core.Path.{_≡_, refl, sym, _∙_, ap, ap₂}
-use mathlib.Core.Bool.{Bool, true, false, not, cond, _&&_}
+use mathlib.Core.Bool.{Bool, true, false, not, cond, _&&_, false≢true}
 use mathlib.Core.List.{List, [], _∷_, _++_}
 use Prim.Native.Nat.{ℕ, zero, suc, _+_, _≤_}
 use native.Mathlib.Nat.{add-assoc, add-zero, zero-add}
@@ -19,7 +19,7 @@ use Rattle.circuit.specs.Sum.{isPosition, areGates}
 use Rattle.circuit.specs.Polynomial.{Term, Polynomial, term, sameTerm, empty, toggled, appliedAll, polynomial}
 use Rattle.circuit.specs.Listing.{overPositions, triples, pairsBeside, everyTerm, among, listing, occurrences, gatesOf}
 use Rattle.circuit.proofs.TermGates.{applied-gateOfTerm}
-use Rattle.circuit.proofs.PolynomialTerms.{IsTerm, never, same-term, is-position, position-true, position-false, polynomial-terms}
+use Rattle.circuit.proofs.PolynomialTerms.{IsTerm, same-term, is-position, position-true, position-false, polynomial-terms}
 
 -- ---- how often a term stands among those of a polynomial
 
@@ -45,8 +45,8 @@ occurrences-among f h (k ∷ l) = go (occurrences-among f h l) (f k) (f h) (same
     differ r e = absurd (no (f k) (ap f (sym (same-term h k r)) ∙ e))
       where
         no : (b : Bool) → b ≡ not b → ⊥
-        no true z = never (sym z)
-        no false z = never z
+        no true z = absurd (false≢true (sym z))
+        no false z = absurd (false≢true z)
 
     go : occurrences h (among f l) ≡ cond (f h) (occurrences h l) 0 → (x y z : Bool) → f k ≡ x → f h ≡ y → sameTerm h k ≡ z
         → occurrences h (cond x (k ∷ among f l) (among f l)) ≡ cond y (cond z 1 0 + occurrences h l) 0
@@ -75,7 +75,7 @@ position-more m p q = go (isPosition m p) (eqb p (suc m)) refl refl
     last e = position-true (suc m) p (omega arith) (omega arith)
 
     outside : isPosition m p ≡ false → (p ≡ suc m → ⊥) → isPosition (suc m) p ≡ false
-    outside e n = position-false (suc m) p (λ h k. never (sym e ∙ position-true m p h (omega arith)))
+    outside e n = position-false (suc m) p (λ h k. absurd (false≢true (sym e ∙ position-true m p h (omega arith))))
 
     go : (x y : Bool) → isPosition m p ≡ x → eqb p (suc m) ≡ y → once (isPosition m p && q) + once (eqb p (suc m) && q) ≡ once (isPosition (suc m) p && q)
     go true true e d = absurd (clash (is-position m p e) (eqb-true p (suc m) d))

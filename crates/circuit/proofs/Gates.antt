@@ -1,11 +1,12 @@
 -- What it means that a circuit of m positions has a gate.
-use mathlib.Core.Path.{_≡_, refl, ap}
+use mathlib.Core.Path.{_≡_, ap}
 use mathlib.Core.Logic.{_≢_}
 use mathlib.Core.Bool.{Bool, true, false, false≢true, not, _&&_}
 use mathlib.Core.List.{List, [], _∷_}
 use Prim.Native.Nat.{ℕ, _≤_}
 use lib.Dec.{eqb, leb}
 use borrow.Author.Tests.{eq-eqb, leb-true}
+use Rattle.gf2.proofs.Bits.{and-both}
 use Rattle.circuit.specs.declared.Colour.{Colour}
 use Rattle.circuit.specs.declared.Spot.{Spot}
 use Rattle.circuit.specs.declared.Gate.{Gate}
@@ -28,17 +29,9 @@ AllValid m (g ∷ gs) = Valid m g × AllValid m gs
 
 -- ---- the tests and what they tell
 
-pub and-left : (x y : Bool) → x && y ≡ true → x ≡ true
-and-left true y h = refl
-and-left false y h = h
-
-pub and-right : (x y : Bool) → x && y ≡ true → y ≡ true
-and-right true y h = h
-and-right false y h = absurd (false≢true h)
-
 position-of : (m p : ℕ) → isPosition m p ≡ true → Position m p
 unfolding isPosition
-position-of m p h = (leb-true 1 p (and-left (leb 1 p) (leb p m) h), leb-true p m (and-right (leb 1 p) (leb p m) h))
+position-of m p h = (leb-true 1 p (and-both (leb 1 p) (leb p m) h .0), leb-true p m (and-both (leb 1 p) (leb p m) h .1))
 
 not-false : (b : Bool) → not b ≡ true → b ≡ true → ⊥
 not-false true h e = false≢true h
@@ -47,28 +40,28 @@ not-false false h e = false≢true e
 pub valid-of : (m : ℕ) (g : Gate) → isGate m g ≡ true → Valid m g
 unfolding isGate
 valid-of m (Ccz i j k) h =
-    let rest = and-right (isPosition m i) (isPosition m j && isPosition m k) h in (
-      position-of m i (and-left (isPosition m i) (isPosition m j && isPosition m k) h),
-      position-of m j (and-left (isPosition m j) (isPosition m k) rest),
-      position-of m k (and-right (isPosition m j) (isPosition m k) rest),
+    let rest = and-both (isPosition m i) (isPosition m j && isPosition m k) h .1 in (
+      position-of m i (and-both (isPosition m i) (isPosition m j && isPosition m k) h .0),
+      position-of m j (and-both (isPosition m j) (isPosition m k) rest .0),
+      position-of m k (and-both (isPosition m j) (isPosition m k) rest .1),
     )
 valid-of m (Cz p q) h =
-    let rest = and-right (isPosition m (p .position)) (isPosition m (q .position) && not (sameColour (p .colour) (q .colour))) h in (
-      position-of m (p .position) (and-left (isPosition m (p .position)) (isPosition m (q .position) && not (sameColour (p .colour) (q .colour))) h),
-      position-of m (q .position) (and-left (isPosition m (q .position)) (not (sameColour (p .colour) (q .colour))) rest),
-      λ e. not-false (sameColour (p .colour) (q .colour)) (and-right (isPosition m (q .position)) (not (sameColour (p .colour) (q .colour))) rest) (eq-eqb (numberOf (p .colour)) (numberOf (q .colour)) (ap numberOf e)),
+    let rest = and-both (isPosition m (p .position)) (isPosition m (q .position) && not (sameColour (p .colour) (q .colour))) h .1 in (
+      position-of m (p .position) (and-both (isPosition m (p .position)) (isPosition m (q .position) && not (sameColour (p .colour) (q .colour))) h .0),
+      position-of m (q .position) (and-both (isPosition m (q .position)) (not (sameColour (p .colour) (q .colour))) rest .0),
+      λ e. not-false (sameColour (p .colour) (q .colour)) (and-both (isPosition m (q .position)) (not (sameColour (p .colour) (q .colour))) rest .1) (eq-eqb (numberOf (p .colour)) (numberOf (q .colour)) (ap numberOf e)),
     )
 valid-of m (Cnot C c t) h =
-    let rest = and-right (isPosition m c) (isPosition m t && not (eqb c t)) h in (
-      position-of m c (and-left (isPosition m c) (isPosition m t && not (eqb c t)) h),
-      position-of m t (and-left (isPosition m t) (not (eqb c t)) rest),
-      λ e. not-false (eqb c t) (and-right (isPosition m t) (not (eqb c t)) rest) (eq-eqb c t e),
+    let rest = and-both (isPosition m c) (isPosition m t && not (eqb c t)) h .1 in (
+      position-of m c (and-both (isPosition m c) (isPosition m t && not (eqb c t)) h .0),
+      position-of m t (and-both (isPosition m t) (not (eqb c t)) rest .0),
+      λ e. not-false (eqb c t) (and-both (isPosition m t) (not (eqb c t)) rest .1) (eq-eqb c t e),
     )
 
 pub all-valid-of : (m : ℕ) (gs : List Gate) → areGates m gs ≡ true → AllValid m gs
 unfolding areGates
 all-valid-of m [] h = tt
-all-valid-of m (g ∷ gs) h = (valid-of m g (and-left (isGate m g) (areGates m gs) h), all-valid-of m gs (and-right (isGate m g) (areGates m gs) h))
+all-valid-of m (g ∷ gs) h = (valid-of m g (and-both (isGate m g) (areGates m gs) h .0), all-valid-of m gs (and-both (isGate m g) (areGates m gs) h .1))
 
 -- ---- positions are at most m
 

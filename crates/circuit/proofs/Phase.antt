@@ -1,14 +1,14 @@
 -- The sign that a string meets is the phase polynomial's value at the string that it ends as.
 use mathlib.Core.Path.{_≡_, refl, sym, _∙_, ap}
 use mathlib.Core.Logic.{_≢_}
-use mathlib.Core.Bool.{Bool, true, false, cond, _&&_}
+use mathlib.Core.Bool.{Bool, true, false, cond, _&&_, and-comm, and-true}
 use mathlib.Core.List.{List, [], _∷_}
 use Prim.Native.Nat.{ℕ, zero, suc, _≤_}
 use native.Mathlib.Omega.{arith}
 use lib.ListN.{length}
 use Rattle.gf2.specs.Strings.{BitString, _⊕_, bit, flip}
 use Rattle.gf2.proofs.Strings.{length-flip}
-use Rattle.gf2.proofs.Bits.{⊕-false, and-comm, and-true}
+use Rattle.gf2.proofs.Bits.{⊕-false}
 use Rattle.circuit.specs.declared.Colour.{Colour}
 use Rattle.circuit.specs.declared.Colour.the-variants.{Red, Blue, Green}
 use Rattle.circuit.specs.declared.Gate.{Gate}

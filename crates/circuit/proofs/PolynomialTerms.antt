@@ -1,13 +1,14 @@
 -- Which terms a circuit's polynomial has: one position of each colour, or two positions of different colours.
 use mathlib.Core.Path.{_≡_, refl, sym, _∙_, ap, ap₂}
 use mathlib.Core.Logic.{_⊎_, inl, inr}
-use mathlib.Core.Bool.{Bool, true, false, not, _&&_}
+use mathlib.Core.Bool.{Bool, true, false, not, _&&_, false≢true}
 use mathlib.Core.List.{List, [], _∷_}
 use Prim.Native.Nat.{ℕ, _+_, _≤_}
 use native.Mathlib.Omega.{arith}
 use lib.Dec.{eqb, leb}
 use borrow.Author.Tests.{leb-true, le-leb, eqb-true, not-true}
 use Rattle.gf2.specs.Strings.{_⊕_}
+use Rattle.gf2.proofs.Bits.{and-both}
 use Rattle.circuit.specs.declared.Colour.{Colour}
 use Rattle.circuit.specs.declared.Colour.the-variants.{Red, Blue, Green}
 use Rattle.circuit.specs.declared.Gate.{Gate}
@@ -28,13 +29,6 @@ pub record IsTerm (m : ℕ) (h : Term) : Type 0 where
 -- The polynomial has no other terms.
 abbrev pub HasTerms : ℕ → Polynomial → Type 0
 HasTerms m f = (h : Term) → f h ≡ true → IsTerm m h
-
-pub never : {A : Type 0} → false ≡ true → A
-never e = let z : _≡_ {A = ℕ} 0 1 = cc in absurd (omega arith)
-
-pub and-both : (a b : Bool) → a && b ≡ true → (a ≡ true) × (b ≡ true)
-and-both true b e = (refl, e)
-and-both false b e = never e
 
 either : (a b : Bool) → a ⊕ b ≡ true → (a ≡ true) ⊎ (b ≡ true)
 unfolding _⊕_
@@ -91,15 +85,15 @@ has-substituted m C c t f ih p q h e = go (either (f h) (eqb (the C h) c && f (p
 
 pair-term : (m : ℕ) (C D : Colour) (a b : ℕ) → sameColour C D ≡ false → (1 ≤ a) × (a ≤ m) → (1 ≤ b) × (b ≤ m) → IsTerm m (put C a (put D b (term 0 0 0)))
 unfolding put join first second term
-pair-term m Red Red a b n p q = never (sym n)
+pair-term m Red Red a b n p q = absurd (false≢true (sym n))
 pair-term m Red Blue a b n p q = omega arith
 pair-term m Red Green a b n p q = omega arith
 pair-term m Blue Red a b n p q = omega arith
-pair-term m Blue Blue a b n p q = never (sym n)
+pair-term m Blue Blue a b n p q = absurd (false≢true (sym n))
 pair-term m Blue Green a b n p q = omega arith
 pair-term m Green Red a b n p q = omega arith
 pair-term m Green Blue a b n p q = omega arith
-pair-term m Green Green a b n p q = never (sym n)
+pair-term m Green Green a b n p q = absurd (false≢true (sym n))
 
 has-applied : (m : ℕ) (g : Gate) (f : Polynomial) → isGate m g ≡ true → HasTerms m f → HasTerms m (applied g f)
 unfolding isGate applied pair term
@@ -131,4 +125,4 @@ has-all m (g ∷ gs) f e t =
 -- A term of a circuit's polynomial is one position of each colour or two positions of different colours, all of them up to m.
 pub polynomial-terms : (m : ℕ) (gs : List Gate) → areGates m gs ≡ true → HasTerms m (polynomial gs)
 unfolding polynomial empty
-polynomial-terms m gs e = has-all m gs empty e (λ h z. never z)
+polynomial-terms m gs e = has-all m gs empty e (λ h z. absurd (false≢true z))

@@ -1,6 +1,6 @@
 -- The words of a polynomial: each is made from its terms, and a change of words is a change of terms.
 use mathlib.Core.Path.{_≡_, refl, sym, _∙_, ap, ap₂}
-use mathlib.Core.Bool.{Bool, true, false, cond, _&&_}
+use mathlib.Core.Bool.{Bool, true, false, cond, _&&_, and-assoc, and-comm}
 use mathlib.Core.List.{List}
 use Prim.Native.Nat.{ℕ, zero, suc, _+_, _*_, _/_, _%_, _^_, _≤_, _<_}
 use native.Mathlib.Nat.{one-mul, zero-mul}
@@ -8,32 +8,18 @@ use native.Mathlib.Omega.{arith}
 use lib.Bits.{bitAnd, bitXor, xor-zero-r, and-mask}
 use lib.Dec.{eqb}
 use lib.ListN.{length, getD, set, length-set, replicate, length-replicate, getD-replicate}
-use lib.Pow.{pow-lt, pow-pos, shl-exact}
+use lib.Pow.{shl-exact}
 use lib.Seq.{getD-set-same, getD-set-other}
 use borrow.Author.Tests.{eqb-true, eqb-false, eq-eqb, ne-eqb, lt-ltb}
 use Rattle.gf2.specs.Strings.{_⊕_}
 use Rattle.gf2.specs.Words.{bitOf, odd, bitAt, toggledAt, wordOf}
-use Rattle.gf2.proofs.Bits.{and-assoc, and-comm}
 use Rattle.gf2.proofs.Tables.{length-tabulate, getD-tabulate, tabulate-unique}
-use Rattle.gf2.proofs.WordBits.{bitAt-zero, bitAt-pow, bitAt-wordOf-lt, wordOf-cong, wordOf-unique, wordOf-xor}
+use Rattle.gf2.proofs.WordBits.{bitAt-wordOf-lt, wordOf-cong, wordOf-xor, wordOf-none, wordOf-and, wordOf-one}
 use Rattle.circuit.specs.declared.Colour.the-variants.{Red, Blue, Green}
 use Rattle.circuit.specs.Colours.{the, first, second, join, put}
 use Rattle.circuit.specs.Polynomial.{Polynomial, term, sameTerm, empty, toggled, substituted}
 use Rattle.circuit.specs.Words.{wordsOf}
 use Rattle.circuit.proofs.Stores.{stored, length-stored, stored-at, stored-added}
-
--- ---- words made from their bits
-
-pub wordOf-none : (n : ℕ) → wordOf n (λ k. false) ≡ 0
-wordOf-none n = sym (wordOf-unique n 0 (λ k. false) (pow-pos n) (λ k h. bitAt-zero k))
-
--- One bit that all the others wait for.
-pub wordOf-and : (n : ℕ) (b : Bool) (f : ℕ → Bool) → wordOf n (λ k. b && f k) ≡ cond b (wordOf n f) 0
-wordOf-and n true f = refl
-wordOf-and n false f = wordOf-none n
-
-pub wordOf-one : (n k : ℕ) → k < n → wordOf n (λ j. eqb j k) ≡ 2 ^ k
-wordOf-one n k h = sym (wordOf-unique n (2 ^ k) (λ j. eqb j k) (pow-lt h) (λ j l. bitAt-pow j k))
 
 -- ---- words and terms
 

@@ -4,6 +4,8 @@ use mathlib.Core.Bool.{Bool, true, false, cond, _&&_}
 use mathlib.Core.List.{List, [], _∷_, _++_}
 use Prim.Native.Nat.{ℕ, zero, suc, _≤_}
 use native.Mathlib.Omega.{arith}
+use Rattle.gf2.proofs.Impossible.{never}
+use Rattle.gf2.proofs.Bits.{and-both}
 use Rattle.circuit.specs.declared.Colour.{Colour}
 use Rattle.circuit.specs.declared.Colour.the-variants.{Red, Blue, Green}
 use Rattle.circuit.specs.declared.Gate.{Gate}
@@ -13,7 +15,7 @@ use Rattle.circuit.specs.Colours.{put, join, first, second}
 use Rattle.circuit.specs.Sum.{isGate, areGates}
 use Rattle.circuit.specs.Polynomial.{Term, Polynomial, term, pair, toggled, applied}
 use Rattle.circuit.specs.Listing.{overPositions, triples, pairsBeside, everyTerm, among, listing, gateOfTerm, gatesOf, entryOf}
-use Rattle.circuit.proofs.PolynomialTerms.{IsTerm, and-both, position-true}
+use Rattle.circuit.proofs.PolynomialTerms.{IsTerm, position-true}
 
 -- ---- by which indices are 0
 
@@ -121,7 +123,7 @@ unfolding entryOf gatesOf areGates
 entry-gate m f n g e = go (listing m f) n (listing-gates m f) e
   where
     go : (l : List Term) (n : ℕ) → areGates m (gatesOf l) ≡ true → entryOf l n ≡ Listed g → isGate m g ≡ true
-    go [] n p e = let z : _≡_ {A = ℕ} 0 1 = cc in absurd (omega arith)
+    go [] n p e = never (cc)
     go (h ∷ l) zero p e =
         let q : gateOfTerm (h .red) (h .blue) (h .green) ≡ g = cc in
         rw q at (and-both (isGate m (gateOfTerm (h .red) (h .blue) (h .green))) (areGates m (gatesOf l)) p .0)

@@ -1,7 +1,7 @@
 -- The polynomial's value as a gate acts: a term added adds its product, and a CNOT is a change of variable.
 use mathlib.Core.Path.{_≡_, refl, sym, _∙_, ap, ap₂}
 use mathlib.Core.Logic.{_≢_}
-use mathlib.Core.Bool.{Bool, true, false, cond, _&&_}
+use mathlib.Core.Bool.{Bool, true, false, cond, _&&_, and-comm, and-assoc, and-false, and-true}
 use Prim.Native.Nat.{ℕ, zero, suc, _≤_, _<_}
 use native.Mathlib.Omega.{arith}
 use lib.ListN.{length}
@@ -10,7 +10,7 @@ use borrow.Author.Tests.{ne-eqb}
 use Rattle.gf2.specs.Strings.{BitString, _⊕_, bit, flip}
 use Rattle.gf2.specs.Sums.{parity}
 use Rattle.gf2.proofs.Strings.{bit-flip}
-use Rattle.gf2.proofs.Bits.{⊕-assoc, ⊕-false, ⊕-self, and-⊕, and-comm, and-assoc, and-left-comm, and-false, and-true, and-⊕-r, and-ac}
+use Rattle.gf2.proofs.Bits.{⊕-assoc, ⊕-false, ⊕-self, and-⊕, and-left-comm, and-⊕-r, and-ac}
 use Rattle.gf2.proofs.Parities.{parity-ext, parity-⊕, parity-and, parity-false, parity-at}
 use Rattle.circuit.specs.declared.Colour.{Colour}
 use Rattle.circuit.specs.declared.Colour.the-variants.{Red, Blue, Green}

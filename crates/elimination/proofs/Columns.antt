@@ -1,8 +1,8 @@
 -- The columns that have had their pivot, as digits of a word: one more is set by `or`, and counts as one where it was not set.
 use mathlib.Core.Path.{_≡_, refl, sym, ap, ap₂, _∙_}
-use mathlib.Core.Bool.{Bool, true, false, _||_}
+use mathlib.Core.Bool.{true, false, _||_, or-false, or-true}
 use Prim.Native.Nat.{ℕ, zero, suc, _+_, _-_, _*_, _/_, _%_, _^_, _<_, _≤_, max}
-use native.Mathlib.Nat.{div-div-eq-div-mul, div-one, max-zero, mod-eq-of-lt, mul-mod-left, pow-succ', zero-max}
+use native.Mathlib.Nat.{div-one, max-zero, mod-eq-of-lt, mul-mod-left, zero-max}
 use native.Mathlib.Omega.{arith}
 use lib.Bits.{bitOr, or-shr, or-step, or-mod, or-zero-r}
 use lib.Count.{ones, ones-step}
@@ -10,7 +10,7 @@ use lib.Dec.{eqb}
 use lib.Pow.{pow-lt, pow-add}
 use borrow.Author.Tests.{eq-eqb, ne-eqb}
 use Rattle.gf2.specs.Words.{bitOf, odd, bitAt}
-use Rattle.gf2.proofs.WordBits.{bitAt-pow}
+use Rattle.gf2.proofs.WordBits.{bitAt-pow, bitAt-half}
 
 -- the low digit of an `or`
 odd-or : (a b : ℕ) → odd (bitOr a b) ≡ odd a || odd b
@@ -36,18 +36,10 @@ unfolding bitAt
 bitAt-with c j k = ap odd (or-shr c (2 ^ j) k) ∙ odd-or (c / 2 ^ k) (2 ^ j / 2 ^ k) ∙ ap (λ b. bitAt c k || b) (bitAt-pow k j)
 
 pub column-set : (c j : ℕ) → bitAt (bitOr c (2 ^ j)) j ≡ true
-column-set c j = bitAt-with c j j ∙ ap (λ b. bitAt c j || b) (eq-eqb j j refl) ∙ go (bitAt c j)
-  where
-    go : (b : Bool) → b || true ≡ true
-    go true = refl
-    go false = refl
+column-set c j = bitAt-with c j j ∙ ap (λ b. bitAt c j || b) (eq-eqb j j refl) ∙ or-true (bitAt c j)
 
 pub column-kept : (c j k : ℕ) → (k ≡ j → ⊥) → bitAt (bitOr c (2 ^ j)) k ≡ bitAt c k
-column-kept c j k h = bitAt-with c j k ∙ ap (λ b. bitAt c k || b) (ne-eqb k j h) ∙ go (bitAt c k)
-  where
-    go : (b : Bool) → b || false ≡ b
-    go true = refl
-    go false = refl
+column-kept c j k h = bitAt-with c j k ∙ ap (λ b. bitAt c k || b) (ne-eqb k j h) ∙ or-false (bitAt c k)
 
 digit-zero : (d : ℕ) → bitOf d ≡ false → d ≡ 0
 unfolding bitOf
@@ -57,10 +49,6 @@ digit-zero (suc d) h = cc
 even : (c : ℕ) → bitAt c 0 ≡ false → c % 2 ≡ 0
 unfolding bitAt odd
 even c h = ap (λ (n : ℕ). n % 2) (sym (div-one c)) ∙ digit-zero (c / 1 % 2) h
-
-bitAt-half : (c k : ℕ) → bitAt (c / 2) k ≡ bitAt c (suc k)
-unfolding bitAt
-bitAt-half c k = ap odd (div-div-eq-div-mul c 2 (2 ^ k) ∙ ap (λ (n : ℕ). c / n) (sym (pow-succ' 2 k)))
 
 -- a column that was not there counts as one more
 pub ones-with : (j c : ℕ) → bitAt c j ≡ false → ones (bitOr c (2 ^ j)) ≡ suc (ones c)
@@ -72,7 +60,7 @@ ones-with zero c h =
 ones-with (suc j) c h =
     ones-step (bitOr c (2 ^ suc j))
     ∙ ap₂ (λ (d q : ℕ). d + ones q) (or-mod c (2 ^ suc j) 1 ∙ ap (bitOr (c % 2)) (double j) ∙ or-zero-r (c % 2)) (or-shr c (2 ^ suc j) 1 ∙ ap (bitOr (c / 2)) (half j))
-    ∙ ap (λ (n : ℕ). c % 2 + n) (ones-with j (c / 2) (bitAt-half c j ∙ h))
+    ∙ ap (λ (n : ℕ). c % 2 + n) (ones-with j (c / 2) (sym (bitAt-half c j) ∙ h))
     ∙ more (c % 2) (ones (c / 2)) ∙ ap suc (sym (ones-step c))
   where
     double : (j : ℕ) → 2 ^ suc j % 2 ≡ 0

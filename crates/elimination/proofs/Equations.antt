@@ -1,7 +1,7 @@
 -- A row as an equation over m unknowns: its lowest m digits are the coefficients, and digit 16 is the right side.
 -- Clearing digit j of a row by another is the step `cleared` on their equations.
 use mathlib.Core.Path.{_≡_, refl, sym, ap, ap₂, _∙_}
-use mathlib.Core.Bool.{Bool, true, false, cond, _&&_}
+use mathlib.Core.Bool.{Bool, true, false, cond, _&&_, and-false, and-true}
 use mathlib.Core.List.{List, [], _∷_, _++_, map, map-append}
 use Prim.Native.Nat.{ℕ, zero, suc, _+_, _-_, _*_, _/_, _%_, _^_, _<_, _≤_}
 use native.Mathlib.Nat.{one-mul, zero-mul, zero-div}
@@ -12,7 +12,7 @@ use lib.ListN.{length, getD, take, drop, replicate, length-drop, length-replicat
 use lib.Seq.{ext-getD, length-take-le, getD-take, getD-drop, take-add}
 use Rattle.gf2.specs.Strings.{BitString, _⊕_, _⊞_}
 use Rattle.gf2.specs.Words.{bitOf, odd, bitAt, lowFirst}
-use Rattle.gf2.proofs.Bits.{⊕-false, ⊕-self, and-false, and-true}
+use Rattle.gf2.proofs.Bits.{⊕-false, ⊕-self}
 use Rattle.gf2.proofs.LowFirst.{lowFirst-xor, bit-lowFirst}
 use Rattle.gf2.proofs.WordBits.{bitAt-xor, bitAt-zero}
 use Rattle.gf2.proofs.ZeroStrings.{zero-of-digits}

@@ -1,4 +1,4 @@
--- A loop that puts f of each element in its place, from the front: after n turns the list is `mapped f n d`. Parts of a mapped list.
+-- A loop that puts f of each element in its place, from the front: after n turns the list is `mapped f n d`.
 use mathlib.Core.Path.{_≡_, refl, ap, _∙_}
 use mathlib.Core.List.{List, [], _∷_, _++_, map, append-nil}
 use Prim.Native.Nat.{ℕ, zero, suc, _+_, _<_, _≤_}
@@ -26,13 +26,3 @@ mapped-next f d r k v e g l = rw (g, e) (mapped-more f k d l)
 -- the loop's end
 pub mapped-end : (f : ℕ → ℕ) (d r : List ℕ) (k : ℕ) → r ≡ mapped f k d → length d ≤ k → r ≡ map f d
 mapped-end f d r k e l = e ∙ rw (take-all k d l, drop-of-length-le d l) (append-nil (map f d))
-
-pub take-map : {A B : Type 0} (f : A → B) (n : ℕ) (l : List A) → take n (map f l) ≡ map f (take n l)
-take-map f zero l = refl
-take-map f (suc n) [] = refl
-take-map f (suc n) (x ∷ l) = ap (λ t. f x ∷ t) (take-map f n l)
-
-pub drop-map : {A B : Type 0} (f : A → B) (n : ℕ) (l : List A) → drop n (map f l) ≡ map f (drop n l)
-drop-map f zero l = refl
-drop-map f (suc n) [] = refl
-drop-map f (suc n) (x ∷ l) = drop-map f n l

@@ -2,7 +2,7 @@
 -- sum into that of the other equations, cleared; an equation that says nothing doubles it; one that no string satisfies makes it 0.
 -- The columns count the unknowns cleared, since every row has a zero in a column that had its pivot.
 use mathlib.Core.Path.{_≡_, refl, sym, ap, ap₂, _∙_}
-use mathlib.Core.Bool.{Bool, true, false, false≢true, not, cond, _&&_, _||_}
+use mathlib.Core.Bool.{Bool, true, false, false≢true, not, cond, _&&_, _||_, and-comm}
 use mathlib.Core.List.{List, _∷_, map}
 use Prim.Native.Nat.{ℕ, zero, suc, _+_, _-_, _%_, _^_, _<_, _≤_}
 use native.Mathlib.Nat.{mod-lt}
@@ -16,18 +16,18 @@ use lib.Seq.{drop-cons, getD-take, length-take-le}
 use Rattle.gf2.specs.Strings.{BitString, _⊕_, bit, isZero}
 use Rattle.gf2.specs.Sums.{sgn}
 use Rattle.gf2.specs.Words.{bitAt, lowFirst}
-use Rattle.gf2.proofs.Bits.{and-comm, sgn-⊕}
+use Rattle.gf2.proofs.Bits.{sgn-⊕}
 use Rattle.gf2.proofs.Integers.{*ℤ-assoc, *ℤ-left-comm, one-*ℤ}
 use Rattle.gf2.proofs.LowFirst.{bit-lowFirst, length-lowFirst}
 use Rattle.gf2.proofs.Parseval.{double-pow}
 use Rattle.gf2.proofs.WordBits.{bitAt-mod, bitAt-zero}
 use Rattle.gf2.proofs.ZeroStrings.{zero-of-digits}
+use Rattle.gf2.proofs.Lists.{take-map, drop-map}
 use Rattle.elimination.specs.declared.Outcome.{Outcome}
 use Rattle.elimination.specs.Rows.{Elim, clear, place, rowsOf, clearedBy, pivot, pivots}
 use Rattle.elimination.specs.State.{begun, outcomeOf}
 use Rattle.elimination.proofs.Systems.{Equation, systemSum, systemSum-nil, systemSum-zero, systemSum-step, clearedAll, clearedString}
 use Rattle.elimination.proofs.Solving.{Size, vanished, signedPower, sizeValue}
-use Rattle.elimination.proofs.Maps.{take-map, drop-map}
 use Rattle.elimination.proofs.Pivots.{length-rowsOf}
 use Rattle.elimination.proofs.Equations.{equationOf, bitAt-clear, rows-cleared-by-zero, row-cleared, string-cleared, equations-cleared}
 use Rattle.elimination.proofs.Columns.{column-set, column-kept, ones-with, with-low, with-high}

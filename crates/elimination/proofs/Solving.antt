@@ -13,6 +13,7 @@ use Rattle.gf2.proofs.Integers.{*ℤ-assoc, one-*ℤ}
 use Rattle.gf2.proofs.Bits.{sgn-⊕}
 use Rattle.gf2.proofs.Strings.{length-⊞}
 use Rattle.gf2.proofs.Parseval.{double-pow}
+use Rattle.gf2.proofs.Impossible.{never}
 use Rattle.elimination.proofs.Systems.{Equation, systemSum, systemSum-nil, systemSum-zero, systemSum-step, clearedAll, clearedString, cleared-row}
 
 -- 0, or a power of two with a sign
@@ -65,12 +66,12 @@ lead-none (false ∷ b) h = lead-none b (go (lead b) h)
 
 pub lead-some : (b : BitString) (j : ℕ) → lead b ≡ some j → (bit j b ≡ true) × (j < length b)
 unfolding lead bit up
-lead-some [] j h = let z : _≡_ {A = ℕ} 0 1 = cc in absurd (omega arith)
+lead-some [] j h = never (cc)
 lead-some (true ∷ b) j h = let e : j ≡ 0 = cc in (rw e, omega arith)
 lead-some (false ∷ b) j h = go (λ i q. lead-some b i q) (lead b) refl h
   where
     go : ((i : ℕ) → lead b ≡ some i → (bit i b ≡ true) × (i < length b)) → (o : Option ℕ) → lead b ≡ o → up o ≡ some j → (bit j (false ∷ b) ≡ true) × (j < suc (length b))
-    go f none q r = let z : _≡_ {A = ℕ} 0 1 = cc in absurd (omega arith)
+    go f none q r = never (cc)
     go f (some i) q r = let e : j ≡ suc i = cc in (rw e (f i q .0), omega (arith, f i q .1))
 
 -- no equation is left

@@ -1,6 +1,6 @@
 -- Systems of equations over bits, and the signed sum over their solutions: what one elimination step does to it.
 use mathlib.Core.Path.{_≡_, refl, sym, _∙_, ap, ap₂}
-use mathlib.Core.Bool.{Bool, true, false, false≢true, not, cond, _&&_}
+use mathlib.Core.Bool.{Bool, true, false, false≢true, not, cond, _&&_, and-false, and-true}
 use mathlib.Core.List.{List, [], _∷_, _++_}
 use Prim.Native.Nat.{ℕ, zero, suc, _^_, _≤_, _<_}
 use native.Mathlib.Omega.{arith}
@@ -9,7 +9,7 @@ use lib.IntN.{ℤ, pos, _+ℤ_, _*ℤ_, negℤ, +ℤ-idr, zero-*ℤ, *ℤ-zero, 
 use Rattle.gf2.specs.Strings.{BitString, _⊕_, _⊞_, dot, bit, flip, isZero}
 use Rattle.gf2.specs.Sums.{sum, sgn}
 use Rattle.gf2.proofs.Integers.{ring, neg-mulℤ, *ℤ-left-comm, *ℤ-one′}
-use Rattle.gf2.proofs.Bits.{⊕-left-comm, ⊕-self, ⊕-false, false-⊕, xor-ac, and-false, and-true, sgn-⊕, sgn-not}
+use Rattle.gf2.proofs.Bits.{⊕-left-comm, ⊕-self, ⊕-false, false-⊕, xor-ac, sgn-⊕, sgn-not}
 use Rattle.gf2.proofs.Strings.{dot-⊞, bit-⊞, dot-flip, dot-zero}
 use Rattle.gf2.proofs.Sums.{sum-ext, sum-add, sum-mul, sum-swap, sum-odd}
 use Rattle.gf2.proofs.Parseval.{sum-of-signs, double-pow}

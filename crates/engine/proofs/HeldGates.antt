@@ -5,11 +5,11 @@ use mathlib.Core.List.{List, [], _∷_, _++_}
 use Prim.Native.Nat.{ℕ, zero, suc}
 use lib.Dec.{eqb}
 use lib.ListN.{take}
+use Rattle.gf2.proofs.Bits.{and-both}
 use Rattle.circuit.specs.declared.Gate.{Gate}
 use Rattle.circuit.specs.declared.Gate.the-variants as Gate
 use Rattle.circuit.specs.Colours.{sameColour}
 use Rattle.circuit.specs.Sum.{isPosition, isGate, areGates}
-use Rattle.circuit.proofs.Gates.{and-left, and-right}
 use Rattle.lines.specs.Spelling.{colourTwice, anyColourTwice}
 use Rattle.refusals.specs.Refusals.{inRange, allInRange, onItself, anyOnItself}
 use Rattle.engine.proofs.Passing.{or-none}
@@ -36,20 +36,20 @@ gates-by-tests m [] r s t = refl
 gates-by-tests m (g ∷ gs) r s t =
     let i = or-none (onItself g) (anyOnItself gs) s in
     let c = or-none (colourTwice g) (anyColourTwice gs) t in
-    both (isGate m g) (areGates m gs) (gate-by-tests m g (and-left (inRange m g) (allInRange m gs) r) (i .0) (c .0))
-    (gates-by-tests m gs (and-right (inRange m g) (allInRange m gs) r) (i .1) (c .1))
+    both (isGate m g) (areGates m gs) (gate-by-tests m g (and-both (inRange m g) (allInRange m gs) r .0) (i .0) (c .0))
+    (gates-by-tests m gs (and-both (inRange m g) (allInRange m gs) r .1) (i .1) (c .1))
 
 pub gates-added : (m : ℕ) (gs hs : List Gate) → areGates m gs ≡ true → areGates m hs ≡ true → areGates m (gs ++ hs) ≡ true
 unfolding areGates
 gates-added m [] hs g h = h
 gates-added m (x ∷ gs) hs g h =
-    both (isGate m x) (areGates m (gs ++ hs)) (and-left (isGate m x) (areGates m gs) g)
-    (gates-added m gs hs (and-right (isGate m x) (areGates m gs) g) h)
+    both (isGate m x) (areGates m (gs ++ hs)) (and-both (isGate m x) (areGates m gs) g .0)
+    (gates-added m gs hs (and-both (isGate m x) (areGates m gs) g .1) h)
 
 pub gates-left : (m n : ℕ) (gs : List Gate) → areGates m gs ≡ true → areGates m (take n gs) ≡ true
 unfolding areGates
 gates-left m zero gs g = refl
 gates-left m (suc n) [] g = refl
 gates-left m (suc n) (x ∷ gs) g =
-    both (isGate m x) (areGates m (take n gs)) (and-left (isGate m x) (areGates m gs) g)
-    (gates-left m n gs (and-right (isGate m x) (areGates m gs) g))
+    both (isGate m x) (areGates m (take n gs)) (and-both (isGate m x) (areGates m gs) g .0)
+    (gates-left m n gs (and-both (isGate m x) (areGates m gs) g .1))

@@ -5,9 +5,9 @@ use mathlib.Core.List.{List}
 use Prim.Native.Nat.{ℕ, zero, suc, _+_, _≤_}
 use lib.ListN.{length}
 use borrow.Author.Tests.{ltb-false}
+use Rattle.gf2.proofs.Impossible.{never}
 use Rattle.circuit.specs.declared.Gate.{Gate}
 use Rattle.lines.specs.declared.Form.{Form}
-use Rattle.text.proofs.Decimal.{never}
 use Rattle.refusals.specs.Refusals.{orElse, refusedIf, isCircuit, works, momentRefusal, anyOnItself, outOfRange, wrongLength, operandRefusal, places, undoesMore, historyRefusal, formRefusal, refusalBy}
 
 -- No number of two tests: neither found one.

@@ -9,6 +9,7 @@ use native.Mathlib.Omega.{arith}
 use lib.Dec.{ltb}
 use lib.ListN.{length, getD, take}
 use borrow.Author.Tests.{ne-eqb, le-ltb}
+use Rattle.gf2.proofs.Impossible.{never}
 use Rattle.circuit.specs.Polynomial.{Term, term, polynomial}
 use Rattle.circuit.specs.Listing.{listing, occurrences, gateOfTerm, entryOf}
 use Rattle.circuit.proofs.Entries.{entryOf-past, entryOf-getD}
@@ -16,7 +17,6 @@ use Rattle.circuit.proofs.EveryTermOnce.{listing-once}
 use Rattle.circuit.proofs.MorePositions.{listing-16}
 use Rattle.text.specs.Reading.{readKeyword, begins}
 use Rattle.text.specs.Spelling.{spelledGate}
-use Rattle.text.proofs.Decimal.{never}
 use Rattle.lines.specs.declared.Form.{Form}
 use Rattle.lines.specs.declared.Form.the-variants as Form
 use Rattle.lines.specs.Gates.{readGate}

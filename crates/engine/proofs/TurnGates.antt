@@ -5,11 +5,11 @@ use mathlib.Core.List.{List, [], _∷_}
 use Prim.Native.Nat.{ℕ, _≤_}
 use native.Mathlib.Omega.{arith}
 use lib.Dec.{eqb}
+use Rattle.gf2.proofs.Bits.{and-both}
 use Rattle.circuit.specs.declared.Gate.{Gate}
 use Rattle.circuit.specs.declared.Gate.the-variants as Gate
 use Rattle.circuit.specs.Colours.{sameColour}
 use Rattle.circuit.specs.Sum.{isPosition, isGate, areGates}
-use Rattle.circuit.proofs.Gates.{and-left, and-right}
 use Rattle.circuit.proofs.PolynomialTerms.{is-position, position-true}
 
 module _ (m n : ℕ) (more : m ≤ n) where
@@ -19,20 +19,20 @@ module _ (m n : ℕ) (more : m ≤ n) where
   gate-more : (g : Gate) → isGate m g ≡ true → isGate n g ≡ true
   unfolding isGate
   gate-more (Gate.Ccz i j k) h =
-      let rest = and-right (isPosition m i) (isPosition m j && isPosition m k) h in
-      rw (position-more i (and-left (isPosition m i) _ h), position-more j (and-left (isPosition m j) _ rest))
-      (position-more k (and-right (isPosition m j) _ rest))
+      let rest = and-both (isPosition m i) (isPosition m j && isPosition m k) h .1 in
+      rw (position-more i (and-both (isPosition m i) _ h .0), position-more j (and-both (isPosition m j) _ rest .0))
+      (position-more k (and-both (isPosition m j) _ rest .1))
   gate-more (Gate.Cz p q) h =
-      let rest = and-right (isPosition m (p .position)) (isPosition m (q .position) && not (sameColour (p .colour) (q .colour))) h in
-      rw (position-more (p .position) (and-left (isPosition m (p .position)) _ h), position-more (q .position) (and-left (isPosition m (q .position)) _ rest))
-      (and-right (isPosition m (q .position)) _ rest)
+      let rest = and-both (isPosition m (p .position)) (isPosition m (q .position) && not (sameColour (p .colour) (q .colour))) h .1 in
+      rw (position-more (p .position) (and-both (isPosition m (p .position)) _ h .0), position-more (q .position) (and-both (isPosition m (q .position)) _ rest .0))
+      (and-both (isPosition m (q .position)) _ rest .1)
   gate-more (Gate.Cnot C c t) h =
-      let rest = and-right (isPosition m c) (isPosition m t && not (eqb c t)) h in
-      rw (position-more c (and-left (isPosition m c) _ h), position-more t (and-left (isPosition m t) _ rest))
-      (and-right (isPosition m t) _ rest)
+      let rest = and-both (isPosition m c) (isPosition m t && not (eqb c t)) h .1 in
+      rw (position-more c (and-both (isPosition m c) _ h .0), position-more t (and-both (isPosition m t) _ rest .0))
+      (and-both (isPosition m t) _ rest .1)
 
   pub gates-more : (gs : List Gate) → areGates m gs ≡ true → areGates n gs ≡ true
   unfolding areGates
   gates-more [] h = refl
   gates-more (g ∷ gs) h =
-      rw (gate-more g (and-left (isGate m g) (areGates m gs) h)) (gates-more gs (and-right (isGate m g) (areGates m gs) h))
+      rw (gate-more g (and-both (isGate m g) (areGates m gs) h .0)) (gates-more gs (and-both (isGate m g) (areGates m gs) h .1))

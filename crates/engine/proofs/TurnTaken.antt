@@ -6,10 +6,10 @@ use Prim.Native.Nat.{ℕ, _+_, _≤_}
 use native.Mathlib.Omega.{arith}
 use lib.ListN.{length, take}
 use borrow.Author.Tests.{ltb-false, not-false}
+use Rattle.gf2.proofs.Bits.{and-both}
 use Rattle.circuit.specs.declared.Gate.{Gate}
 use Rattle.circuit.specs.Sum.{areGates}
 use Rattle.circuit.specs.History.{codeOf}
-use Rattle.circuit.proofs.Gates.{and-right}
 use Rattle.lines.specs.declared.Form.{Form}
 use Rattle.lines.specs.declared.Form.the-variants as Form
 use Rattle.lines.specs.Forms.{formOf}
@@ -65,7 +65,7 @@ unfolding outOfRange
 gates-inside m gs ccz r = not-false _ r
 gates-inside m gs cz r = not-false _ r
 gates-inside m gs cnot r = not-false _ r
-gates-inside m gs (layer {n = n}) r = and-right (within 1 48 n) _ (not-false _ r)
+gates-inside m gs (layer {n = n}) r = and-both (within 1 48 n) _ (not-false _ r) .1
 
 module _ (e : Engine) (s s' : State) (h : List ℕ) (a : Answer) where
   -- A line other than `circuit` finds a circuit.

@@ -6,15 +6,15 @@ use Prim.Native.Nat.{ℕ, zero, suc, _+_, _-_, _^_, _≤_, _<_}
 use lib.Dec.{eqb, leb, ltb}
 use lib.ListN.{length, take}
 use borrow.Author.Tests.{ltb-true, ltb-false, leb-true, eqb-true, not-false}
+use Rattle.gf2.proofs.Impossible.{never}
+use Rattle.gf2.proofs.Bits.{and-both}
 use Rattle.circuit.specs.declared.Colour.{Colour}
 use Rattle.circuit.specs.declared.Spot.{Spot}
-use Rattle.circuit.proofs.Gates.{and-left, and-right}
 use Rattle.text.specs.declared.Bits.{Bits}
 use Rattle.lines.specs.declared.Form.{Form}
 use Rattle.lines.specs.declared.Form.the-variants as Form
 use Rattle.answers.specs.declared.Answer.{Answer}
 use Rattle.answers.specs.declared.Answer.the-variants as Answer
-use Rattle.text.proofs.Decimal.{never}
 use Rattle.engine.specs.Engine.{Circuit, amplitude, readout, OpenSum, closed, running, Loaded, absent, present}
 use Rattle.refusals.specs.Refusals.{isCircuit, works, within, allInRange, anyOnItself, lineGates, places, outOfRange, notLong, wrongLength, formRefusal}
 use Rattle.engine.specs.Response.{Turn, noStrings, newCircuit, withGates, withoutLast, withNewStart, outputWith, opening, besideUnread, total, stepped, stepOf, termsOf, accepted, hasCircuit, isRunning, sumOpen, positionsOf, gatesOf, refusalOf, acceptedBy, turnBy, turnOf}
@@ -101,7 +101,7 @@ module _ (room : ℕ) (l : List ℕ) where
   -- a new circuit
   created : (e : Loaded) (m : ℕ) → Passing e (Form.Circuit m) → ViewOf room l e (Form.Circuit m) (newCircuit m)
   unfolding newCircuit works outOfRange within
-  created e m p = creates (shut (sumOpen e) (p .waiting)) (leb-true 1 m (and-left (leb 1 m) (leb m 16) range)) (leb-true m 16 (and-right (leb 1 m) (leb m 16) range))
+  created e m p = creates (shut (sumOpen e) (p .waiting)) (leb-true 1 m (and-both (leb 1 m) (leb m 16) range .0)) (leb-true m 16 (and-both (leb 1 m) (leb m 16) range .1))
     where
       shut : (b : Bool) → b && true ≡ false → b ≡ false
       shut true h = h
@@ -159,7 +159,7 @@ module _ (room : ℕ) (l : List ℕ) where
   idle c (Form.Ccz i j k) p = added c _ ccz (not-false _ (p .ranges)) p
   idle c (Form.Cz s t) p = added c _ cz (not-false _ (p .ranges)) p
   idle c (Form.Cnot C i t) p = added c _ cnot (not-false _ (p .ranges)) p
-  idle c (Form.Layer n) p = added c _ layer (and-right (within 1 48 n) _ (not-false _ (p .ranges))) p
+  idle c (Form.Layer n) p = added c _ layer (and-both (within 1 48 n) _ (not-false _ (p .ranges)) .1) p
   idle c (Form.Undo k) p = takesBack
   idle c (Form.Start r b g) p =
       let h = or-none (notLong (c .m) r) _ (p .lengths) in

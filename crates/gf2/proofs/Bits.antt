@@ -1,6 +1,6 @@
 -- Laws of sums and products of bits.
 use mathlib.Core.Path.{_≡_, refl, sym, _∙_, ap}
-use mathlib.Core.Bool.{Bool, true, false, not, _&&_}
+use mathlib.Core.Bool.{Bool, true, false, not, _&&_, false≢true, and-comm, and-assoc}
 use lib.IntN.{_*ℤ_, negℤ}
 use Rattle.gf2.specs.Strings.{_⊕_}
 use Rattle.gf2.specs.Sums.{sgn}
@@ -38,28 +38,14 @@ false-⊕ a = refl
 
 pub ruleset xor-ac = (⊕-assoc, ⊕-comm, ⊕-left-comm)
 
-pub and-comm : (x y : Bool) → x && y ≡ y && x
-and-comm false false = refl
-and-comm false true = refl
-and-comm true false = refl
-and-comm true true = refl
-
-pub and-assoc : (x y z : Bool) → (x && y) && z ≡ x && (y && z)
-and-assoc false y z = refl
-and-assoc true y z = refl
-
 pub and-left-comm : (x y z : Bool) → x && (y && z) ≡ y && (x && z)
 and-left-comm x y z = sym (and-assoc x y z) ∙ ap (λ w. w && z) (and-comm x y) ∙ and-assoc y x z
 
-pub and-false : (x : Bool) → x && false ≡ false
-and-false true = refl
-and-false false = refl
-
-pub and-true : (x : Bool) → x && true ≡ x
-and-true true = refl
-and-true false = refl
-
 pub ruleset and-ac = (and-assoc, and-comm, and-left-comm)
+
+pub and-both : (a b : Bool) → a && b ≡ true → (a ≡ true) × (b ≡ true)
+and-both true b h = (refl, h)
+and-both false b h = absurd (false≢true h)
 
 pub and-⊕ : (a b c : Bool) → (a ⊕ b) && c ≡ (a && c) ⊕ (b && c)
 unfolding _⊕_

@@ -2,16 +2,16 @@
 use mathlib.Core.Path.{_≡_, refl, _∙_, ap, ap₂}
 use mathlib.Core.Bool.{true, false}
 use mathlib.Core.List.{[], _∷_}
-use Prim.Native.Nat.{ℕ, zero, suc, _+_, _*_, _/_, _^_, _<_}
+use Prim.Native.Nat.{ℕ, zero, suc, _+_, _-_, _*_, _/_, _^_, _<_}
 use native.Mathlib.Nat.{div-eq-of-lt, add-div-left, add-mul-div-right, pow-suc}
 use native.Mathlib.Omega.{arith}
 use lib.ListN.{length}
 use lib.Bits.{bitXor, xor-shr}
 use lib.Pow.{pow-pos}
 use lib.IntN.{ℤ, _+ℤ_, +ℤ-idl}
-use Rattle.gf2.specs.Strings.{BitString, _⊞_}
+use Rattle.gf2.specs.Strings.{BitString, _⊞_, bit}
 use Rattle.gf2.specs.Sums.{sum, sumBelow}
-use Rattle.gf2.specs.Words.{bitOf, odd, highFirst}
+use Rattle.gf2.specs.Words.{bitOf, odd, bitAt, highFirst}
 use Rattle.gf2.proofs.Digits.{odd-xor, odd-even}
 use Rattle.gf2.proofs.Below.{sumBelow-cong, sumBelow-add}
 
@@ -19,6 +19,13 @@ pub length-highFirst : (m w : ℕ) → length (highFirst m w) ≡ m
 unfolding highFirst
 length-highFirst zero w = refl
 length-highFirst (suc m) w = ap suc (length-highFirst m w)
+
+-- Place p from the front is the digit that counts 2^(m − 1 − p).
+pub bit-highFirst : (m n p : ℕ) → p < m → bit p (highFirst m n) ≡ bitAt n (m - suc p)
+unfolding bit highFirst bitAt
+bit-highFirst zero n p h = absurd (omega arith)
+bit-highFirst (suc m) n zero h = ap (λ (x : ℕ). odd (n / 2 ^ x)) (omega arith)
+bit-highFirst (suc m) n (suc p) h = bit-highFirst m n p (omega arith) ∙ ap (λ (x : ℕ). odd (n / 2 ^ x)) (omega arith)
 
 pub highFirst-xor : (m a b : ℕ) → highFirst m (bitXor a b) ≡ highFirst m a ⊞ highFirst m b
 unfolding highFirst _⊞_

@@ -1,4 +1,5 @@
 pub mod Integers
+pub mod Impossible
 pub mod Bits
 pub mod Strings
 pub mod Sums
@@ -11,4 +12,5 @@ pub mod HighFirst
 pub mod LowFirst
 pub mod WordBits
 pub mod ZeroStrings
+pub mod Lists
 pub mod Tables

@@ -1,13 +1,13 @@
 -- Sums modulo 2 over the numbers below a bound.
 use mathlib.Core.Path.{_≡_, refl, sym, _∙_, ap, ap₂}
-use mathlib.Core.Bool.{Bool, true, false, _&&_}
+use mathlib.Core.Bool.{Bool, true, false, _&&_, and-false}
 use Prim.Native.Nat.{ℕ, zero, suc, _<_}
 use native.Mathlib.Omega.{arith}
 use lib.Dec.{eqb}
 use borrow.Author.Tests.{eqb-true, eqb-false, ne-eqb}
 use Rattle.gf2.specs.Strings.{_⊕_}
 use Rattle.gf2.specs.Sums.{parity}
-use Rattle.gf2.proofs.Bits.{⊕-false, false-⊕, ⊕-self, xor-ac, and-false, and-⊕-r}
+use Rattle.gf2.proofs.Bits.{⊕-false, false-⊕, ⊕-self, xor-ac, and-⊕-r}
 
 pub parity-cong : (n : ℕ) (f g : ℕ → Bool) → ((i : ℕ) → i < n → f i ≡ g i) → parity n f ≡ parity n g
 unfolding parity

@@ -1,6 +1,6 @@
 -- Laws of bit strings: dot products, sums, a bit turned over.
 use mathlib.Core.Path.{_≡_, refl, sym, _∙_, ap, ap₂}
-use mathlib.Core.Bool.{Bool, true, false, not, _&&_}
+use mathlib.Core.Bool.{Bool, true, false, not, _&&_, and-comm}
 use mathlib.Core.List.{[], _∷_}
 use Prim.Native.Nat.{ℕ, zero, suc, _≤_, _<_}
 use native.Mathlib.Omega.{arith}
@@ -8,7 +8,7 @@ use lib.ListN.{length}
 use lib.Dec.{eqb, eqb·zero-suc, eqb·suc-zero, eqb·suc-suc}
 use borrow.Author.Tests.{eq-eqb}
 use Rattle.gf2.specs.Strings.{BitString, _⊕_, _⊞_, dot, bit, flip, isZero}
-use Rattle.gf2.proofs.Bits.{⊕-assoc, ⊕-false, false-⊕, xor-ac, and-⊕, and-comm}
+use Rattle.gf2.proofs.Bits.{⊕-assoc, ⊕-false, false-⊕, xor-ac, and-⊕}
 
 pub dot-⊞ : (a b v : BitString) → dot (a ⊞ b) v ≡ dot a v ⊕ dot b v
 unfolding dot _⊞_
@@ -32,6 +32,13 @@ bit-⊞ zero (x ∷ a) [] = simp ⊕-false
 bit-⊞ (suc j) (x ∷ a) [] = simp ⊕-false
 bit-⊞ zero (x ∷ a) (y ∷ b) = refl
 bit-⊞ (suc j) (x ∷ a) (y ∷ b) = bit-⊞ j a b
+
+-- A string has no bit from its length on.
+pub bit-past : (j : ℕ) (b : BitString) → length b ≤ j → bit j b ≡ false
+unfolding bit
+bit-past j [] h = refl
+bit-past zero (x ∷ b) h = absurd (omega arith)
+bit-past (suc j) (x ∷ b) h = bit-past j b (omega arith)
 
 pub ⊞-nil : (a : BitString) → a ⊞ [] ≡ a
 unfolding _⊞_

@@ -1,19 +1,19 @@
 -- Bits of words: tested, turned over, and of a word made from its bits.
 use mathlib.Core.Path.{_≡_, refl, sym, _∙_, ap, ap₂}
-use mathlib.Core.Bool.{Bool, true, false, cond, _&&_}
+use mathlib.Core.Bool.{Bool, true, false, cond, _&&_, and-false, and-true}
 use Prim.Native.Nat.{ℕ, zero, suc, _+_, _*_, _-_, _/_, _%_, _^_, _≤_, _<_}
-use native.Mathlib.Nat.{add-comm, add-zero, div-eq-of-lt, div-lt-iff-lt-mul, div-one, mod-lt, mul-div-mul-left, one-mul, zero-div, zero-mul}
+use native.Mathlib.Nat.{add-comm, add-zero, div-div-eq-div-mul, div-eq-of-lt, div-lt-iff-lt-mul, div-one, mod-lt, mul-div-mul-left, one-mul, pow-succ', zero-div, zero-mul}
 use native.Mathlib.Numerals.{add-one}
 use native.Mathlib.Omega.{arith}
 use lib.Dec.{eqb, ltb, eqb·zero-suc, eqb·suc-zero, eqb·suc-suc}
-use lib.Bits.{bitXor, xor-shr, xor-shifted, xor-comm, xor-zero-r, xor-lt}
-use lib.Arith.{lt-one, lt-of-le-ne}
-use lib.Pow.{pow-pos, pow-mono, split, field, mod-mod-pow}
+use lib.Bits.{bitAnd, bitXor, and-shr, xor-shr, xor-shifted, xor-comm, xor-zero-r, xor-lt}
+use lib.Arith.{lt-one}
+use lib.Pow.{pow-pos, pow-lt, pow-mono, split, field, mod-mod-pow}
 use borrow.Author.Tests.{eqb-true, eqb-false, ltb-true, ltb-false, lt-ltb, le-ltb}
 use Rattle.gf2.specs.Strings.{_⊕_}
 use Rattle.gf2.specs.Words.{bitOf, odd, bitAt, wordOf}
-use Rattle.gf2.proofs.Bits.{⊕-false, false-⊕, and-false, and-true}
-use Rattle.gf2.proofs.Digits.{odd-xor}
+use Rattle.gf2.proofs.Bits.{⊕-false, false-⊕}
+use Rattle.gf2.proofs.Digits.{odd-xor, odd-and}
 
 -- A word has no bit from its width on.
 pub bitAt-past : (n w k : ℕ) → w < 2 ^ n → n ≤ k → bitAt w k ≡ false
@@ -36,6 +36,14 @@ odd-tested n = go (n % 2) (omega arith)
 pub bitAt-xor : (a b k : ℕ) → bitAt (bitXor a b) k ≡ bitAt a k ⊕ bitAt b k
 unfolding bitAt
 bitAt-xor a b k = ap odd (xor-shr a b k) ∙ odd-xor (a / 2 ^ k) (b / 2 ^ k)
+
+pub bitAt-and : (a b k : ℕ) → bitAt (bitAnd a b) k ≡ bitAt a k && bitAt b k
+unfolding bitAt
+bitAt-and a b k = ap odd (and-shr a b k) ∙ odd-and (a / 2 ^ k) (b / 2 ^ k)
+
+pub bitAt-half : (w k : ℕ) → bitAt w (suc k) ≡ bitAt (w / 2) k
+unfolding bitAt
+bitAt-half w k = ap odd (ap (λ (x : ℕ). w / x) (pow-succ' 2 k) ∙ sym (div-div-eq-div-mul w 2 (2 ^ k)))
 
 pub bitAt-zero : (k : ℕ) → bitAt 0 k ≡ false
 unfolding bitAt odd bitOf
@@ -90,39 +98,39 @@ wordOf-suc n f = go (f n)
         ∙ ap (bitXor (wordOf n f)) (one-mul (2 ^ n))
     go false = sym (xor-zero-r (wordOf n f) ∙ sym (add-zero (wordOf n f)))
 
+-- The places up to n: those below it, and n.
+pub ltb-next : (g : ℕ → Bool) (k n : ℕ) → ltb k (suc n) && g k ≡ (ltb k n && g k) ⊕ (eqb k n && g n)
+ltb-next g k n = go (ltb k n) (eqb k n) refl refl
+  where
+    go : (a b : Bool) → ltb k n ≡ a → eqb k n ≡ b → ltb k (suc n) && g k ≡ (ltb k n && g k) ⊕ (eqb k n && g n)
+    go true true p q = absurd (clash (ltb-true k n p) (eqb-true k n q))
+      where
+        clash : k < n → k ≡ n → ⊥
+        clash h e = omega arith
+    go true false p q = rw (p, q, lt-ltb k (suc n) (more (ltb-true k n p))) (sym (⊕-false (g k)))
+      where
+        more : k < n → k < suc n
+        more h = omega arith
+    go false true p q = rw (p, q, lt-ltb k (suc n) (here (eqb-true k n q))) (ap g (eqb-true k n q) ∙ sym (false-⊕ (g n)))
+      where
+        here : k ≡ n → k < suc n
+        here e = omega arith
+    go false false p q = rw (p, q, le-ltb k (suc n) (past (ltb-false k n p) (eqb-false k n q))) (sym (false-⊕ false))
+      where
+        past : n ≤ k → (k ≡ n → ⊥) → suc n ≤ k
+        past h e = omega arith
+
 -- Bit k of the word is f k.
 pub bitAt-wordOf : (n : ℕ) (f : ℕ → Bool) (k : ℕ) → bitAt (wordOf n f) k ≡ ltb k n && f k
 unfolding wordOf
 bitAt-wordOf zero f k = bitAt-zero k ∙ sym (ap (λ b. b && f k) (le-ltb k 0 (omega arith)))
 bitAt-wordOf (suc n) f k =
     ap (λ (w : ℕ). bitAt w k) (wordOf-suc n f) ∙ bitAt-xor (wordOf n f) (cond (f n) (2 ^ n) 0) k
-    ∙ ap₂ _⊕_ (bitAt-wordOf n f k) (last (f n)) ∙ joined (ltb k n) (eqb k n) refl refl
+    ∙ ap₂ _⊕_ (bitAt-wordOf n f k) (last (f n)) ∙ sym (ltb-next f k n)
   where
     last : (b : Bool) → bitAt (cond b (2 ^ n) 0) k ≡ eqb k n && b
     last true = bitAt-pow k n ∙ sym (and-true (eqb k n))
     last false = bitAt-zero k ∙ sym (and-false (eqb k n))
-
-    joined : (a b : Bool) → ltb k n ≡ a → eqb k n ≡ b → (ltb k n && f k) ⊕ (eqb k n && f n) ≡ ltb k (suc n) && f k
-    joined true true p q = absurd (clash (ltb-true k n p) (eqb-true k n q))
-      where
-        clash : k < n → k ≡ n → ⊥
-        clash h e = omega arith
-    joined true false p q = ap₂ (λ x y. (x && f k) ⊕ (y && f n)) p q ∙ ⊕-false (f k) ∙ sym (ap (λ b. b && f k) (lt-ltb k (suc n) (more (ltb-true k n p))))
-      where
-        more : k < n → k < suc n
-        more h = omega arith
-    joined false true p q =
-        ap₂ (λ x y. (x && f k) ⊕ (y && f n)) p q ∙ false-⊕ (f n) ∙ ap f (sym (eqb-true k n q))
-        ∙ sym (ap (λ b. b && f k) (lt-ltb k (suc n) (here (eqb-true k n q))))
-      where
-        here : k ≡ n → k < suc n
-        here e = omega arith
-    joined false false p q =
-        ap₂ (λ x y. (x && f k) ⊕ (y && f n)) p q ∙ ⊕-false false
-        ∙ sym (ap (λ b. b && f k) (le-ltb k (suc n) (past (ltb-false k n p) (eqb-false k n q))))
-      where
-        past : n ≤ k → (k ≡ n → ⊥) → suc n ≤ k
-        past h ne = lt-of-le-ne h (λ e. ne (sym e))
 
 -- Where k is below n.
 pub bitAt-wordOf-lt : (n : ℕ) (f : ℕ → Bool) (k : ℕ) → k < n → bitAt (wordOf n f) k ≡ f k
@@ -166,3 +174,14 @@ wordOf-unique n w f h e = sym (wordOf-bits n w h) ∙ wordOf-cong n (bitAt w) f 
 pub wordOf-xor : (n : ℕ) (f g : ℕ → Bool) → bitXor (wordOf n f) (wordOf n g) ≡ wordOf n (λ k. f k ⊕ g k)
 wordOf-xor n f g = wordOf-unique n (bitXor (wordOf n f) (wordOf n g)) (λ k. f k ⊕ g k) (xor-lt n (wordOf n f) (wordOf n g) (wordOf-lt n f) (wordOf-lt n g))
     (λ k l. bitAt-xor (wordOf n f) (wordOf n g) k ∙ ap₂ _⊕_ (bitAt-wordOf-lt n f k l) (bitAt-wordOf-lt n g k l))
+
+pub wordOf-none : (n : ℕ) → wordOf n (λ k. false) ≡ 0
+wordOf-none n = sym (wordOf-unique n 0 (λ k. false) (pow-pos n) (λ k h. bitAt-zero k))
+
+-- One bit that all the others wait for.
+pub wordOf-and : (n : ℕ) (b : Bool) (f : ℕ → Bool) → wordOf n (λ k. b && f k) ≡ cond b (wordOf n f) 0
+wordOf-and n true f = refl
+wordOf-and n false f = wordOf-none n
+
+pub wordOf-one : (n k : ℕ) → k < n → wordOf n (λ j. eqb j k) ≡ 2 ^ k
+wordOf-one n k h = sym (wordOf-unique n (2 ^ k) (λ j. eqb j k) (pow-lt h) (λ j l. bitAt-pow j k))

@@ -4,13 +4,14 @@ use mathlib.Core.Path.{_≡_, refl}
 use mathlib.Core.Bool.{Bool, true, false, _&&_}
 use mathlib.Core.List.{List, [], _∷_, _++_}
 use Rattle.gf2.specs.Strings.{BitString}
+use Rattle.gf2.proofs.Impossible.{never}
 use Rattle.circuit.specs.declared.Colour.{Colour}
 use Rattle.circuit.specs.declared.Colour.the-variants.{Red, Blue, Green}
 use Rattle.circuit.specs.declared.Spot.{Spot}
 use Rattle.circuit.specs.declared.Gate.{Gate}
 use Rattle.circuit.specs.declared.Gate.the-variants.{Ccz, Cz, Cnot}
 use Rattle.text.specs.Spelling.{bytes, decimal, letter, bitDigits, spelledSpot, spelledGate}
-use Rattle.text.proofs.Decimal.{never, Digits, decimal-digits}
+use Rattle.text.proofs.Decimal.{Digits, decimal-digits}
 use Rattle.lines.specs.Spelling.{Typed, circuit, gate, layer, undo, start, amp, part, step, drop as dropped, terms, spelledGates, spelledBits, spelled}
 use Rattle.lines.specs.Forms.{isAllowed, allAllowed}
 

@@ -10,6 +10,7 @@ use native.Mathlib.Nat.{zero-add}
 use lib.ListN.{length, drop}
 use lib.Dec.{ltb}
 use borrow.Author.Tests.{ltb-true, ltb-false, lt-ltb, le-ltb}
+use Rattle.gf2.proofs.Impossible.{never}
 use Rattle.circuit.specs.declared.Gate.{Gate}
 use Rattle.circuit.specs.declared.Gate.the-variants.{Ccz, Cz, Cnot}
 use Rattle.text.specs.Spelling.{bytes, letter, spelledGate}
@@ -24,7 +25,6 @@ use Rattle.lines.specs.Forms.{allAllowed, circuitFrom, undoFrom, stepFro
 use Rattle.lines.proofs.LayerSpelling.{Gates, layer-read, layer-spelled, gates-read}
 use Rattle.lines.proofs.FormSpelling.{ended-read, number-form-read, two-strings-read, three-strings-read, gate-line-read, ended-cases, number-form-cases, two-strings-cases, three-strings-cases, gate-line-cases}
 use Rattle.lines.proofs.AllowedSpelling.{spelled-allowed}
-use Rattle.text.proofs.Decimal.{never}
 
 -- ---- what is spelled is read
 

@@ -9,6 +9,7 @@ use lib.Seq.{drop-length}
 use lib.Dec.{eqb}
 use borrow.Author.Tests.{not-true, eq-eqb, eqb-true}
 use Rattle.gf2.specs.Strings.{BitString}
+use Rattle.gf2.proofs.Bits.{and-both}
 use Rattle.circuit.specs.declared.Gate.{Gate}
 use Rattle.text.specs.Spelling.{bytes, decimal, spelledGate}
 use Rattle.text.specs.Reading.{capped, heldBits, readNumber, spacedBits, withNumber, withBits}
@@ -24,7 +25,6 @@ use Rattle.lines.specs.Gates.{withGate, readGate}
 use Rattle.lines.specs.Forms.{ended, closed, gateLine}
 use Rattle.lines.proofs.GateSpelling.{gate-read, gate-stands}
 use Rattle.lines.proofs.LayerSpelling.{held-twice}
-use Rattle.text.proofs.Decimal.{never}
 
 -- A number and the closing bracket.
 abbrev pub number-form : (ℕ → Form) → List ℕ → ℕ → Form
@@ -42,10 +42,6 @@ abbrev pub three-strings : (Bits → Bits → Bits → Form) → List ℕ → �
 three-strings form l a = withBits (Form.Refused 4) (spacedBits l a) λ x b. two-strings (form x) l b
 
 -- ---- what is spelled is read
-
-both : (p q : Bool) → p && q ≡ true → (p ≡ true) × (q ≡ true)
-both true q h = (refl, h)
-both false q h = never (cc)
 
 some-bits : (s : BitString) → someBits s ≡ true → eqb (length s) 0 ≡ false
 unfolding someBits
@@ -67,7 +63,7 @@ pub two-strings-read : (l : List ℕ) (at : ℕ) (x y : BitString) (form : Bits 
     → two-strings form l at ≡ form (heldBits x) (heldBits y)
 unfolding spelledBits
 two-strings-read l at x y form h e =
-    let p = both (someBits x) (someBits y) h in
+    let p = and-both (someBits x) (someBits y) h in
     spaced-bits-then _ _ (spelledBits y ++ bytes ")") _ _ x _ (some-bits x (p .0)) refl e λ e₁.
     spaced-bits-then _ _ (bytes ")") _ _ y _ (some-bits y (p .1)) refl e₁ λ e₂.
     closed-read _ _ _ e₂
@@ -78,7 +74,7 @@ pub three-strings-read : (l : List ℕ) (at : ℕ) (x y z : BitString) (form : B
     → three-strings form l at ≡ form (heldBits x) (heldBits y) (heldBits z)
 unfolding spelledBits
 three-strings-read l at x y z form h e =
-    let p = both (someBits x) (someBits y && someBits z) h in
+    let p = and-both (someBits x) (someBits y && someBits z) h in
     spaced-bits-then _ _ (spelledBits y ++ (spelledBits z ++ bytes ")")) _ _ x _ (some-bits x (p .0)) refl e λ e₁.
     two-strings-read _ _ y z (form (heldBits x)) (p .1) e₁
 

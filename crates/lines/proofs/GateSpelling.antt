@@ -6,6 +6,7 @@ use mathlib.Core.List.{List, [], _∷_, _++_, append-assoc, append-nil}
 use native.Mathlib.Omega.{arith}
 use lib.ListN.{length, drop, length-append}
 use lib.Seq.{drop-append-seam, take-append-seam}
+use Rattle.gf2.proofs.Impossible.{never}
 use Rattle.circuit.specs.declared.Colour.{Colour}
 use Rattle.circuit.specs.declared.Spot.{Spot}
 use Rattle.circuit.specs.declared.Gate.{Gate}
@@ -21,7 +22,6 @@ use Rattle.lines.specs.declared.SpotAt.{SpotAt}
 use Rattle.lines.specs.declared.SpotAt.the-variants.{Read as SpotRead, Missing as NoSpot}
 use Rattle.lines.specs.declared.GateAt.{GateAt}
 use Rattle.lines.specs.declared.GateAt.the-variants.{Read as GateRead, Missing as NoGate}
-use Rattle.text.proofs.Decimal.{never}
 
 -- ---- a gate's spelling and what follows it, item by item
 

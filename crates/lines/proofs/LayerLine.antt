@@ -4,6 +4,7 @@ use mathlib.Core.Path.{_≡_, refl, ap, sym, _∙_}
 use mathlib.Core.Bool.{Bool, true, false, cond}
 use mathlib.Core.List.{List, map}
 use lib.ListN.{length, length-map}
+use Rattle.gf2.proofs.Impossible.{never}
 use Rattle.circuit.specs.declared.Gate.{Gate}
 use Rattle.circuit.specs.declared.Gate.the-variants.{Ccz, Cz, Cnot}
 use Rattle.lines.specs.declared.Form.{Form}
@@ -12,7 +13,6 @@ use Rattle.lines.specs.Spelling.{Typed, circuit, gate, layer, undo, star
 use Rattle.lines.specs.Gates.{layerGates}
 use Rattle.lines.specs.Forms.{formOf}
 use Rattle.lines.proofs.FormReading.{readAs, form-cases, layer-gates}
-use Rattle.text.proofs.Decimal.{never}
 
 pub record LayerLine (l : List ℕ) (n : ℕ) : Type 0 where
   pub gates : List Gate

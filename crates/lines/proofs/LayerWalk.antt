@@ -6,9 +6,9 @@ use mathlib.Core.List.{List, [], _∷_}
 use lib.Dec.{eqb}
 use lib.ListN.{length, drop}
 use lib.Seq.{drop-drop}
+use Rattle.gf2.proofs.Impossible.{never}
 use Rattle.circuit.specs.declared.Gate.{Gate}
 use Rattle.text.specs.Reading.{begins, readKeyword}
-use Rattle.text.proofs.Decimal.{never}
 use Rattle.lines.specs.Gates.{withGate, readGate, gatesFrom, layerGates, gatesAt, layerGateAt}
 use Rattle.lines.specs.Forms.{formOf}
 use Rattle.lines.specs.declared.GateAt.{GateAt}

@@ -4,6 +4,7 @@ use mathlib.Core.Path.{_≡_, refl}
 use mathlib.Core.List.{List}
 use native.Mathlib.Omega.{arith}
 use lib.ListN.{length}
+use Rattle.gf2.proofs.Impossible.{never}
 use Rattle.circuit.specs.declared.Colour.{Colour}
 use Rattle.circuit.specs.declared.Spot.{Spot}
 use Rattle.circuit.specs.declared.Gate.{Gate}
@@ -29,7 +30,7 @@ module _ (l : List ℕ) where
   Within x = (g : Gate) (n : ℕ) → x ≡ GateRead g n → n ≤ length l
 
   no-gate : Within NoGate
-  no-gate g n h = let z : _≡_ {A = ℕ} 0 1 = cc in absurd (omega arith)
+  no-gate g n h = never (cc)
 
   after-number : (x : NumberAt) (k : ℕ → ℕ → GateAt) → ((v n : ℕ) → Within (k v n)) → Within (withNumber NoGate x k)
   after-number (NumberRead v n) k p = p v n

@@ -3,13 +3,13 @@ use mathlib.Core.Path.{_≡_, refl}
 use mathlib.Core.List.{List}
 use Prim.Native.Nat.{ℕ, _*_, _^_}
 use lib.IntN.{ℤ}
+use Rattle.gf2.proofs.Impossible.{never}
 use Rattle.circuit.specs.Colours.{first, second}
 use Rattle.circuit.specs.Polynomial.{polynomial}
 use Rattle.slices.specs.Totals.{amplitudeAfter, readoutCount}
 use Rattle.lines.specs.declared.Form.{Form}
 use Rattle.answers.specs.declared.Answer.{Answer}
 use Rattle.answers.specs.declared.Answer.the-variants as Answer
-use Rattle.text.proofs.Decimal.{never as impossible}
 use Rattle.engine.specs.Engine.{Circuit, Purpose, amplitude, readout, OpenSum, running, Loaded, present}
 use Rattle.engine.specs.Response.{total}
 use Rattle.engine.specs.State.{outputOf}
@@ -32,40 +32,40 @@ pub readout-end :
     {room : ℕ} {l : List ℕ} {e e' : Loaded} {f : Form} {a : Answer} (t n : ℕ) → View room l e f e' a →
     a ≡ Answer.Readout t n → ReadoutEnd t n e
 unfolding total outputOf
-readout-end t n refuses h = impossible (cc)
-readout-end t n passesBy h = impossible (cc)
-readout-end t n (creates i low high) h = impossible (cc)
-readout-end t n (adds g r i w) h = impossible (cc)
-readout-end t n takesBack h = impossible (cc)
-readout-end t n (starts x y z) h = impossible (cc)
-readout-end t n (opensAmplitude x y z) h = impossible (cc)
-readout-end t n (opensReadout x y) h = impossible (cc)
-readout-end t n (worksOn w) h = impossible (cc)
+readout-end t n refuses h = never (cc)
+readout-end t n passesBy h = never (cc)
+readout-end t n (creates i low high) h = never (cc)
+readout-end t n (adds g r i w) h = never (cc)
+readout-end t n takesBack h = never (cc)
+readout-end t n (starts x y z) h = never (cc)
+readout-end t n (opensAmplitude x y z) h = never (cc)
+readout-end t n (opensReadout x y) h = never (cc)
+readout-end t n (worksOn w) h = never (cc)
 readout-end t n (finishes {c = c} {o = o} w) h = go (o .purpose) refl h
   where
     go : (p : Purpose) → o .purpose ≡ p → total (c .m) o p ≡ Answer.Readout t n → ReadoutEnd t n (present c (running o))
-    go amplitude e h = impossible (cc)
+    go amplitude e h = never (cc)
     go readout e h = counted c o e (cc) (cc)
-readout-end t n drops h = impossible (cc)
-readout-end t n lists h = impossible (cc)
+readout-end t n drops h = never (cc)
+readout-end t n lists h = never (cc)
 
 pub amplitude-end :
     {room : ℕ} {l : List ℕ} {e e' : Loaded} {f : Form} {a : Answer} (s : ℤ) (n : ℕ) → View room l e f e' a →
     a ≡ Answer.Amplitude s n → AmplitudeEnd s n e
 unfolding total outputOf
-amplitude-end s n refuses h = impossible (cc)
-amplitude-end s n passesBy h = impossible (cc)
-amplitude-end s n (creates i low high) h = impossible (cc)
-amplitude-end s n (adds g r i w) h = impossible (cc)
-amplitude-end s n takesBack h = impossible (cc)
-amplitude-end s n (starts x y z) h = impossible (cc)
-amplitude-end s n (opensAmplitude x y z) h = impossible (cc)
-amplitude-end s n (opensReadout x y) h = impossible (cc)
-amplitude-end s n (worksOn w) h = impossible (cc)
+amplitude-end s n refuses h = never (cc)
+amplitude-end s n passesBy h = never (cc)
+amplitude-end s n (creates i low high) h = never (cc)
+amplitude-end s n (adds g r i w) h = never (cc)
+amplitude-end s n takesBack h = never (cc)
+amplitude-end s n (starts x y z) h = never (cc)
+amplitude-end s n (opensAmplitude x y z) h = never (cc)
+amplitude-end s n (opensReadout x y) h = never (cc)
+amplitude-end s n (worksOn w) h = never (cc)
 amplitude-end s n (finishes {c = c} {o = o} w) h = go (o .purpose) refl h
   where
     go : (p : Purpose) → o .purpose ≡ p → total (c .m) o p ≡ Answer.Amplitude s n → AmplitudeEnd s n (present c (running o))
     go amplitude e h = summed c o e (cc) (cc)
-    go readout e h = impossible (cc)
-amplitude-end s n drops h = impossible (cc)
-amplitude-end s n lists h = impossible (cc)
+    go readout e h = never (cc)
+amplitude-end s n drops h = never (cc)
+amplitude-end s n lists h = never (cc)

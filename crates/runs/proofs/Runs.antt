@@ -4,9 +4,9 @@ use mathlib.Core.List.{List, _∷_, _++_}
 use Prim.Native.Nat.{ℕ}
 use lib.IntN.{ℤ}
 use Rattle.gf2.specs.Strings.{BitString}
+use Rattle.gf2.proofs.Impossible.{never}
 use Rattle.circuit.specs.declared.Colour.{Colour}
 use Rattle.circuit.specs.declared.Gate.{Gate}
-use Rattle.text.proofs.Decimal.{never as impossible}
 use Rattle.answers.specs.declared.Answer.{Answer}
 use Rattle.answers.specs.declared.Answer.the-variants as Answer
 use Rattle.answers.specs.Answers.{bytesOf}
@@ -26,23 +26,23 @@ outcome-readout :
     {room : ℕ} {l : List ℕ} {e e' : Loaded} {a : List ℕ} (t n : ℕ) → Outcome room l e e' a →
     a ≡ bytesOf (Answer.Readout t n) → ReadoutEnd t n e
 unfolding bytesOf
-outcome-readout t n silent h = impossible (cc)
+outcome-readout t n silent h = never (cc)
 outcome-readout t n (spoken {a = a} v) h = readout-end t n v (answers-unique a (Answer.Readout t n) h)
 
 outcome-amplitude :
     {room : ℕ} {l : List ℕ} {e e' : Loaded} {a : List ℕ} (s : ℤ) (n : ℕ) → Outcome room l e e' a →
     a ≡ bytesOf (Answer.Amplitude s n) → AmplitudeEnd s n e
 unfolding bytesOf
-outcome-amplitude s n silent h = impossible (cc)
+outcome-amplitude s n silent h = never (cc)
 outcome-amplitude s n (spoken {a = a} v) h = amplitude-end s n v (answers-unique a (Answer.Amplitude s n) h)
 
 -- No fetch shows one.
 shown-no-readout : {a : List ℕ} (t n : ℕ) → Shown a → a ≡ bytesOf (Answer.Readout t n) → ⊥
 unfolding bytesOf
-shown-no-readout t n nothing h = impossible (cc)
+shown-no-readout t n nothing h = never (cc)
 shown-no-readout t n (term g) h =
     let e : Answer.Listed g ≡ Answer.Readout t n = answers-unique (Answer.Listed g) (Answer.Readout t n) h in
-    impossible (cc)
+    never (cc)
 
 -- The sum that is ended is the one noted.
 part-noted : (c : Circuit) (o : OpenSum) (g : Log) → o .purpose ≡ readout → Follows (present c (running o)) g → PartNoted c o (g .part)

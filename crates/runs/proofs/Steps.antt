@@ -6,10 +6,10 @@ use mathlib.Core.List.{List, [], _∷_, _++_}
 use Prim.Native.Nat.{ℕ, suc, _+_, _*_, _^_, _≤_, _<_}
 use native.Mathlib.Nat.{zero-add, add-zero, add-assoc}
 use native.Mathlib.Omega.{arith}
+use Rattle.gf2.proofs.Impossible.{never}
 use Rattle.circuit.specs.declared.Colour.{Colour}
 use Rattle.text.specs.declared.Bits.{Bits}
 use Rattle.text.specs.Reading.{begins}
-use Rattle.text.proofs.Decimal.{never as impossible}
 use Rattle.lines.specs.declared.Form.{Form}
 use Rattle.lines.specs.declared.Form.the-variants as Form
 use Rattle.lines.specs.Forms.{formOf}
@@ -67,17 +67,17 @@ begins-working :
     f ≡ Form.Part C x y → isLeft (bytesOf a) ≡ true → bookOf e ≡ holds b → Working (b .m) 0 e'
 unfolding bytesOf isLeft begins bookOf enteredOf
 begins-working C x y b refuses h k q = absurd (false≢true k)
-begins-working C x y b passesBy h _ _ = impossible (cc)
-begins-working C x y b (creates i low high) h _ _ = impossible (cc)
+begins-working C x y b passesBy h _ _ = never (cc)
+begins-working C x y b (creates i low high) h _ _ = never (cc)
 begins-working C x y b (adds g r i w) h k q = absurd (false≢true k)
-begins-working C x y b takesBack h _ _ = impossible (cc)
-begins-working C x y b (starts r s t) h _ _ = impossible (cc)
-begins-working C x y b (opensAmplitude r s t) h _ _ = impossible (cc)
+begins-working C x y b takesBack h _ _ = never (cc)
+begins-working C x y b (starts r s t) h _ _ = never (cc)
+begins-working C x y b (opensAmplitude r s t) h _ _ = never (cc)
 begins-working C x y b (opensReadout s t) h k q = working refl (ap (λ (z : Entered). z .m) (holds-one q)) refl
-begins-working C x y b (worksOn w) h _ _ = impossible (cc)
-begins-working C x y b (finishes w) h _ _ = impossible (cc)
-begins-working C x y b drops h _ _ = impossible (cc)
-begins-working C x y b lists h _ _ = impossible (cc)
+begins-working C x y b (worksOn w) h _ _ = never (cc)
+begins-working C x y b (finishes w) h _ _ = never (cc)
+begins-working C x y b drops h _ _ = never (cc)
+begins-working C x y b lists h _ _ = never (cc)
 
 -- A line leaves the sum open while its slices are not all worked.
 works-on :
@@ -101,7 +101,7 @@ works-on lists s d h = absurd (false≢true (working-open s))
 
 total-readout : (m : ℕ) (o : OpenSum) (p : Purpose) → p ≡ readout → IsReadout (bytesOf (total m o p))
 unfolding total
-total-readout m o amplitude h = impossible (cc)
+total-readout m o amplitude h = never (cc)
 total-readout m o readout h = record { t = _; n = 3 * m; is = refl }
 
 -- The step that reaches the end answers the count.
@@ -110,20 +110,20 @@ ends-working :
     isStepped (bytesOf a) ≡ true → 2 ^ m ≤ w + k → IsReadout (bytesOf a)
 unfolding bytesOf isStepped isLeft begins sumOpen isRunning
 ends-working k refuses s e d h = absurd (false≢true d)
-ends-working k passesBy _ e _ _ = impossible (cc)
-ends-working k (creates i low high) _ e _ _ = impossible (cc)
+ends-working k passesBy _ e _ _ = never (cc)
+ends-working k (creates i low high) _ e _ _ = never (cc)
 ends-working k (adds g r i n) s e d h = absurd (false≢true (working-open s))
-ends-working k takesBack _ e _ _ = impossible (cc)
-ends-working k (starts x y z) _ e _ _ = impossible (cc)
-ends-working k (opensAmplitude x y z) _ e _ _ = impossible (cc)
-ends-working k (opensReadout x y) _ e _ _ = impossible (cc)
+ends-working k takesBack _ e _ _ = never (cc)
+ends-working k (starts x y z) _ e _ _ = never (cc)
+ends-working k (opensAmplitude x y z) _ e _ _ = never (cc)
+ends-working k (opensReadout x y) _ e _ _ = never (cc)
 ends-working k (worksOn {c = c} {o = o} {k = j} n) (working p q r) e d h =
     let i : j ≡ k = cc in
     let u : 2 ^ c .m ≤ o .worked + k = rw (q, r) h in
     absurd (omega arith)
 ends-working k (finishes {c = c} {o = o} n) (working p q r) e d h = total-readout (c .m) o (o .purpose) p
-ends-working k drops _ e _ _ = impossible (cc)
-ends-working k lists _ e _ _ = impossible (cc)
+ends-working k drops _ e _ _ = never (cc)
+ends-working k lists _ e _ _ = never (cc)
 
 -- ---- calls
 

@@ -11,11 +11,11 @@ use lib.Pow.{pow-pos, pow-mono}
 use Rattle.gf2.specs.Strings.{BitString}
 use Rattle.gf2.specs.Words.{bitOf, odd, highFirst}
 use Rattle.gf2.proofs.HighFirst.{highFirst-shift}
+use Rattle.gf2.proofs.Impossible.{never}
 use Rattle.circuit.specs.declared.Colour.{Colour}
 use Rattle.circuit.specs.declared.Gate.{Gate}
 use Rattle.circuit.specs.declared.Gate.the-variants as Gate
 use Rattle.text.specs.declared.Bits.{Bits}
-use Rattle.text.proofs.Decimal.{never as impossible}
 use Rattle.lines.specs.declared.Form.{Form}
 use Rattle.lines.specs.declared.Form.the-variants as Form
 use Rattle.lines.specs.Spelling.{Typed, circuit, gate, layer, undo, start, amp, part, step, drop, terms, spelled, colourTwice, anyColourTwice, twiceIn, heldGate, gateForm, held}
@@ -85,35 +85,35 @@ from-held s x e h = sym (typed-held s (subst (λ (n : ℕ). n ≤ 16) (sym (ap (
 module _ (l : List ℕ) (C : Colour) (x y : Bits) where
   not-gate : (b : Bool) (g : Gate) → cond b (Form.Refused 5) (gateForm g) ≡ Form.Part C x y → ⊥
   unfolding gateForm
-  not-gate true g h = impossible (cc)
-  not-gate false (Gate.Ccz i j k) h = impossible (cc)
-  not-gate false (Gate.Cz p q) h = impossible (cc)
-  not-gate false (Gate.Cnot D c t) h = impossible (cc)
+  not-gate true g h = never (cc)
+  not-gate false (Gate.Ccz i j k) h = never (cc)
+  not-gate false (Gate.Cz p q) h = never (cc)
+  not-gate false (Gate.Cnot D c t) h = never (cc)
 
   not-layer : (b : Bool) (n : ℕ) → cond b (Form.Refused 5) (Form.Layer n) ≡ Form.Part C x y → ⊥
-  not-layer true n h = impossible (cc)
-  not-layer false n h = impossible (cc)
+  not-layer true n h = never (cc)
+  not-layer false n h = never (cc)
 
   spelled-part :
       (t : Typed) → readAs t ≡ Form.Part C x y → x .len ≤ 16 → y .len ≤ 16 → spelled t ≡ spelled (part C (typed x) (typed y))
   unfolding twiceIn held
-  spelled-part (circuit m) h p q = impossible (cc)
+  spelled-part (circuit m) h p q = never (cc)
   spelled-part (gate g) h p q = absurd (not-gate (colourTwice g) (heldGate g) h)
   spelled-part (layer gs) h p q = absurd (not-layer (anyColourTwice gs) (length gs) h)
-  spelled-part (undo k) h p q = impossible (cc)
-  spelled-part (start r b g) h p q = impossible (cc)
-  spelled-part (amp D r b g) h p q = impossible (cc)
+  spelled-part (undo k) h p q = never (cc)
+  spelled-part (start r b g) h p q = never (cc)
+  spelled-part (amp D r b g) h p q = never (cc)
   spelled-part (part D u v) h p q =
       let c : D ≡ C = cc in
       let i : heldBits u ≡ x = cc in
       let j : heldBits v ≡ y = cc in
       rw (c, from-held u x i p, from-held v y j q)
-  spelled-part (step k) h p q = impossible (cc)
-  spelled-part drop h p q = impossible (cc)
-  spelled-part terms h p q = impossible (cc)
+  spelled-part (step k) h p q = never (cc)
+  spelled-part drop h p q = never (cc)
+  spelled-part terms h p q = never (cc)
 
   -- A line that is read as a `part` is "(part C X Y)" with the strings that the book notes.
   pub part-line : formOf l ≡ Form.Part C x y → x .len ≤ 16 → y .len ≤ 16 → l ≡ spelled (part C (typed x) (typed y))
   part-line h p q =
-      form-cases (λ (f : Form). f ≡ Form.Part C x y → l ≡ spelled (part C (typed x) (typed y))) l (λ n k. impossible (cc))
+      form-cases (λ (f : Form). f ≡ Form.Part C x y → l ≡ spelled (part C (typed x) (typed y))) l (λ n k. never (cc))
       (λ s k. s .is ∙ spelled-part (s .typed) k p q) h

@@ -1,6 +1,6 @@
 -- The output string as part of the polynomial: the bit at a position of a colour acts as the term that holds this position alone.
 use mathlib.Core.Path.{_≡_, refl, sym, _∙_, ap, ap₂}
-use mathlib.Core.Bool.{Bool, false, _&&_}
+use mathlib.Core.Bool.{Bool, false, _&&_, and-comm, and-false}
 use mathlib.Core.List.{[], _∷_}
 use Prim.Native.Nat.{ℕ, zero, suc}
 use native.Mathlib.Omega.{arith}
@@ -8,7 +8,7 @@ use lib.ListN.{length}
 use lib.Dec.{eqb}
 use Rattle.gf2.specs.Strings.{BitString, _⊕_, dot, bit}
 use Rattle.gf2.specs.Sums.{parity}
-use Rattle.gf2.proofs.Bits.{false-⊕, xor-ac, and-comm, and-left-comm, and-false, and-⊕-r, and-ac}
+use Rattle.gf2.proofs.Bits.{false-⊕, xor-ac, and-left-comm, and-⊕-r, and-ac}
 use Rattle.gf2.proofs.Parities.{parity-ext, parity-⊕, parity-and, parity-at, parity-false}
 use Rattle.circuit.specs.declared.Colour.{Colour}
 use Rattle.circuit.specs.declared.Colour.the-variants.{Red, Blue, Green}
@@ -75,6 +75,7 @@ value-added-join C m f p z u v h =
 pub value-added : (C : Colour) (m : ℕ) (f : Polynomial) (p : BitString) (x : Basis) → length (the C x) ≡ m → value m (added C p f) x ≡ value m f x ⊕ dot p (the C x)
 value-added C m f p x h = ap (value m (added C p f)) (sym (join-parts C x)) ∙ value-added-join C m f p (the C x) (first C x) (second C x) h ∙ ap (λ (y : Basis). value m f y ⊕ dot p (the C x)) (join-parts C x)
 
+-- The value of a polynomial with an output string: the string's product with the state is added.
 pub value-output : (m : ℕ) (f : Polynomial) (s x : Basis) → Sized m x → value m (withOutput s f) x ≡ value m f x ⊕ dots s x
 unfolding withOutput dots the
 value-output m f s x h =

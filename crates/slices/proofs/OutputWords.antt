@@ -1,17 +1,19 @@
 -- A string of one colour added to the polynomial's words, position by position.
 use mathlib.Core.Path.{_≡_, refl, sym, _∙_, ap}
-use mathlib.Core.Bool.{Bool, true, false, _&&_}
-use mathlib.Core.List.{List, [], _∷_}
-use Prim.Native.Nat.{ℕ, zero, suc, _+_, _-_, _*_, _/_, _^_, _≤_, _<_}
+use mathlib.Core.Bool.{Bool, true, false, _&&_, and-comm, and-false}
+use mathlib.Core.List.{List, _∷_}
+use Prim.Native.Nat.{ℕ, zero, suc, _+_, _-_, _*_, _≤_, _<_}
+use native.Mathlib.Numerals.{add-one}
 use native.Mathlib.Omega.{arith}
 use lib.Dec.{eqb, ltb}
-use lib.ListN.{length, getD, set}
-use borrow.Author.Tests.{eqb-true, eqb-false, ltb-true, ltb-false, lt-ltb, le-ltb}
+use lib.ListN.{getD, set}
+use borrow.Author.Tests.{ltb-false, le-ltb}
 use Rattle.gf2.specs.Strings.{BitString, _⊕_, bit}
-use Rattle.gf2.specs.Words.{odd, bitAt, toggledAt, highFirst}
-use Rattle.gf2.proofs.Bits.{⊕-assoc, ⊕-false, false-⊕, and-ac, and-comm, and-false, and-⊕-r}
-use Rattle.gf2.proofs.HighFirst.{length-highFirst}
-use Rattle.gf2.proofs.WordBits.{wordOf-cong}
+use Rattle.gf2.specs.Words.{bitAt, toggledAt, highFirst}
+use Rattle.gf2.proofs.Bits.{⊕-assoc, ⊕-false, and-ac, and-⊕-r}
+use Rattle.gf2.proofs.HighFirst.{length-highFirst, bit-highFirst}
+use Rattle.gf2.proofs.WordBits.{wordOf-cong, ltb-next}
+use Rattle.gf2.proofs.Strings.{bit-past}
 use Rattle.circuit.specs.declared.Colour.{Colour}
 use Rattle.circuit.specs.declared.Colour.the-variants.{Red, Blue, Green}
 use Rattle.circuit.specs.Colours.{the, first, second, join}
@@ -22,60 +24,21 @@ use Rattle.slices.specs.Packing.{added}
 
 -- ---- digits of a string
 
-bit-past : (l : BitString) (q : ℕ) → length l ≤ q → bit q l ≡ false
-unfolding bit
-bit-past [] q h = refl
-bit-past (x ∷ l) zero h = absurd (omega arith)
-bit-past (x ∷ l) (suc q) h = bit-past l q (omega arith)
-
-high-bit : (m v q : ℕ) → q < m → bit q (highFirst m v) ≡ bitAt v (m - suc q)
-unfolding bit highFirst bitAt
-high-bit zero v q h = absurd (omega arith)
-high-bit (suc m) v zero h = ap (λ (e : ℕ). odd (v / 2 ^ e)) (highest m)
-  where
-    highest : (m : ℕ) → m ≡ suc m - 1
-    highest m = omega arith
-high-bit (suc m) v (suc q) h = high-bit m v q (omega arith) ∙ ap (λ (e : ℕ). odd (v / 2 ^ e)) (lower m q)
-  where
-    lower : (m q : ℕ) → m - suc q ≡ suc m - suc (suc q)
-    lower m q = omega arith
-
 -- Position 1 is the highest of the m digits.
 pub position-bit : (m v p : ℕ) → 1 ≤ p → p ≤ m → bit p (false ∷ highFirst m v) ≡ bitAt v (m - p)
 unfolding bit
 position-bit m v zero h l = absurd (omega arith)
-position-bit m v (suc q) h l = high-bit m v q (omega arith)
+position-bit m v (suc q) h l = bit-highFirst m v q (omega arith)
 
 position-past : (m v p : ℕ) → m < p → bit p (false ∷ highFirst m v) ≡ false
 unfolding bit
 position-past m v zero h = absurd (omega arith)
-position-past m v (suc q) h = bit-past (highFirst m v) q (omega (arith, length-highFirst m v))
+position-past m v (suc q) h = bit-past q (highFirst m v) (omega (arith, length-highFirst m v))
 
 -- ---- the positions below n
 
 unfoldable pub addedBelow : ℕ → Colour → BitString → Polynomial → Polynomial
 addedBelow n C p f h = f h ⊕ (eqb (first C h) 0 && (eqb (second C h) 0 && (ltb (the C h) n && bit (the C h) (false ∷ p))))
-
-ltb-next : (g : ℕ → Bool) (k n : ℕ) → ltb k (n + 1) && g k ≡ (ltb k n && g k) ⊕ (eqb k n && g n)
-ltb-next g k n = go (ltb k n) (eqb k n) refl refl
-  where
-    go : (a b : Bool) → ltb k n ≡ a → eqb k n ≡ b → ltb k (n + 1) && g k ≡ (ltb k n && g k) ⊕ (eqb k n && g n)
-    go true true p q = absurd (clash (ltb-true k n p) (eqb-true k n q))
-      where
-        clash : k < n → k ≡ n → ⊥
-        clash h e = omega arith
-    go true false p q = rw (p, q, lt-ltb k (n + 1) (more (ltb-true k n p))) (sym (⊕-false (g k)))
-      where
-        more : k < n → k < n + 1
-        more h = omega arith
-    go false true p q = rw (p, q, lt-ltb k (n + 1) (here (eqb-true k n q))) (ap g (eqb-true k n q) ∙ sym (false-⊕ (g n)))
-      where
-        here : k ≡ n → k < n + 1
-        here e = omega arith
-    go false false p q = rw (p, q, le-ltb k (n + 1) (past (ltb-false k n p) (eqb-false k n q))) (sym (false-⊕ false))
-      where
-        past : n ≤ k → (k ≡ n → ⊥) → n + 1 ≤ k
-        past h e = omega arith
 
 -- The term that holds a position alone.
 same-alone : (C : Colour) (h : Term) (p : ℕ) → sameTerm h (join C p 0 0) ≡ eqb (first C h) 0 && (eqb (second C h) 0 && eqb (the C h) p)
@@ -91,7 +54,7 @@ added-next : (C : Colour) (s : BitString) (f : Polynomial) (p : ℕ) (h : Term)
     → addedBelow (p + 1) C s f h ≡ addedBelow p C s f h ⊕ (bit p (false ∷ s) && sameTerm h (join C p 0 0))
 unfolding addedBelow
 added-next C s f p h =
-    ap (λ (t : Bool). f h ⊕ (x && (y && t))) (ltb-next (λ i. bit i (false ∷ s)) (the C h) p)
+    ap (λ (t : Bool). f h ⊕ (x && (y && t))) (ap (λ (n : ℕ). ltb (the C h) n && bit (the C h) (false ∷ s)) (add-one p) ∙ ltb-next (λ i. bit i (false ∷ s)) (the C h) p)
     ∙ spread (f h) x y (ltb (the C h) p && bit (the C h) (false ∷ s)) (eqb (the C h) p) (bit p (false ∷ s))
     ∙ ap (λ (t : Bool). (f h ⊕ (x && (y && (ltb (the C h) p && bit (the C h) (false ∷ s))))) ⊕ (bit p (false ∷ s) && t)) (sym (same-alone C h p))
   where

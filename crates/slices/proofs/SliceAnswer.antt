@@ -4,9 +4,8 @@ use mathlib.Core.Logic.{inl, inr}
 use mathlib.Core.Bool.{Bool, true, false, true≢false, cond, _||_}
 use mathlib.Core.List.{List}
 use Prim.Native.Nat.{ℕ, zero, suc, _+_, _-_, _*_, _%_, _^_, _≤_, _<_}
-use native.Mathlib.Nat.{mod-lt}
 use native.Mathlib.Omega.{arith}
-use lib.Count.{ones, ones-le}
+use lib.Count.{ones}
 use lib.Dec.{ltb}
 use lib.IntN.{ℤ, pos, natAbs, _*ℤ_, pos-*ℤ-pos, *ℤ-zero, pos-ne-negsuc}
 use lib.ListN.{length}
@@ -27,7 +26,7 @@ use Rattle.elimination.specs.declared.Outcome.{Outcome}
 use Rattle.elimination.specs.Rows.{pivots}
 use Rattle.elimination.specs.State.{begun, outcomeOf}
 use Rattle.elimination.proofs.Solving.{vanished, signedPower, sizeValue}
-use Rattle.elimination.proofs.SignedSum.{sizeOf}
+use Rattle.elimination.proofs.SignedSum.{sizeOf, columns-few}
 use Rattle.slices.specs.declared.slice.Slice.{Slice}
 use Rattle.slices.specs.Slices.{coefficient, gamma, innerSum}
 use Rattle.slices.specs.Rank.{rank}
@@ -68,7 +67,7 @@ module _ (m : ℕ) (o : Outcome) (I : ℤ) (r : ℕ) (small : m ≤ 16) (low : r
     (value : sizeValue (sizeOf m o) ≡ pos (2 ^ (16 - m)) *ℤ I) where
   few : cleared o ≤ 16
   unfolding cleared
-  few = ones-le 16 (o .columns % 2 ^ 16) (mod-lt (o .columns) (pow-pos 16))
+  few = columns-few o
 
   when-vanished : vanishing o ≡ true → I ≡ pos 0
   unfolding vanishing sizeOf sizeValue

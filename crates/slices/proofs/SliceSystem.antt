@@ -1,6 +1,6 @@
 -- The rows of a slice are the equations of Γ and the first vector, and its last row the second vector with the sign of the slice.
 use mathlib.Core.Path.{_≡_, refl, sym, _∙_, ap, ap₂}
-use mathlib.Core.Bool.{Bool, true, false, _&&_}
+use mathlib.Core.Bool.{Bool, true, false, _&&_, and-false}
 use mathlib.Core.List.{List, [], _∷_, map}
 use Prim.Native.Nat.{ℕ, zero, suc, _+_, _-_, _%_, _^_, _≤_, _<_}
 use native.Mathlib.Omega.{arith}
@@ -11,9 +11,9 @@ use lib.Seq.{ext-getD, getD-take, length-take-le}
 use Rattle.gf2.specs.Strings.{BitString, _⊕_, _⊞_, dot, bit}
 use Rattle.gf2.specs.Sums.{sgn}
 use Rattle.gf2.specs.Words.{bitAt, lowFirst, wordOf}
-use Rattle.gf2.proofs.Bits.{⊕-false, and-false, sgn-⊕}
+use Rattle.gf2.proofs.Bits.{⊕-false, sgn-⊕}
 use Rattle.gf2.proofs.Integers.{ring}
-use Rattle.gf2.proofs.Strings.{bit-⊞}
+use Rattle.gf2.proofs.Strings.{bit-⊞, bit-past}
 use Rattle.gf2.proofs.Parities.{parity-ext, parity-false}
 use Rattle.gf2.proofs.LowFirst.{length-lowFirst, bit-lowFirst}
 use Rattle.gf2.proofs.Tables.{length-tabulate, getD-tabulate}
@@ -39,12 +39,6 @@ use Rattle.slices.proofs.OutputString.{coefficient-output}
 use Rattle.slices.proofs.TableWords.{rowAt-in, rowAt-lt, length-packedRows, rowsOf-packedRows}
 
 -- ---- strings and lists by their places
-
-bit-past : (j : ℕ) (b : BitString) → length b ≤ j → bit j b ≡ false
-unfolding bit
-bit-past j [] h = refl
-bit-past zero (x ∷ b) h = absurd (omega arith)
-bit-past (suc j) (x ∷ b) h = bit-past j b (omega arith)
 
 bits-ext : (a b : BitString) → length a ≡ length b → ((j : ℕ) → j < length a → bit j a ≡ bit j b) → a ≡ b
 unfolding bit

@@ -2,7 +2,7 @@
 use mathlib.Core.Path.{_≡_, refl, sym, _∙_, ap, ap₂}
 use mathlib.Core.Bool.{Bool, true, false, _&&_}
 use Prim.Native.Nat.{ℕ, zero, suc, _+_, _-_, _/_, _%_, _^_, _≤_, _<_}
-use native.Mathlib.Nat.{div-one, div-div-eq-div-mul, pow-succ'}
+use native.Mathlib.Nat.{div-one}
 use native.Mathlib.Omega.{arith}
 use lib.Bits.{bitAnd}
 use lib.Count.{trailingZeros, under}
@@ -14,13 +14,11 @@ use Rattle.gf2.specs.Words.{bitOf, odd, bitAt, highFirst}
 use Rattle.gf2.proofs.Bits.{⊕-false, ⊕-comm}
 use Rattle.gf2.proofs.Digits.{odd-add}
 use Rattle.gf2.proofs.Parities.{parity-cong, parity-ext}
+use Rattle.gf2.proofs.WordBits.{bitAt-half}
+use Rattle.gf2.proofs.HighFirst.{bit-highFirst}
 use Rattle.circuit.specs.Sum.{at}
 use Rattle.slices.proofs.Slicing.{parity-head}
 use Rattle.slices.proofs.BitTests.{bit-set, bit-clear}
-
-bitAt-half : (w k : ℕ) → bitAt w (suc k) ≡ bitAt (w / 2) k
-unfolding bitAt
-bitAt-half w k = ap odd (ap (λ (x : ℕ). w / x) (pow-succ' 2 k) ∙ sym (div-div-eq-div-mul w 2 (2 ^ k)))
 
 odd-next : (n : ℕ) → odd (n + 1) ≡ odd n ⊕ true
 unfolding odd bitOf
@@ -60,12 +58,6 @@ trailing-lt (suc k) (suc m) n l h = go (trailing-lt k m (n / 2)) (n % 2) refl
     go ih (suc r) q = rw q (omega arith)
 
 -- Position p of the string is the digit that counts 2^(m − p).
-bit-highFirst : (m n p : ℕ) → p < m → bit p (highFirst m n) ≡ bitAt n (m - suc p)
-unfolding bit highFirst bitAt
-bit-highFirst zero n p h = absurd (omega arith)
-bit-highFirst (suc m) n zero h = ap (λ (x : ℕ). odd (n / 2 ^ x)) (omega arith)
-bit-highFirst (suc m) n (suc p) h = bit-highFirst m n p (omega arith) ∙ ap (λ (x : ℕ). odd (n / 2 ^ x)) (omega arith)
-
 pub at-highFirst : (m n p : ℕ) → 1 ≤ p → p ≤ m → at p (highFirst m n) ≡ bitAt n (m - p)
 unfolding at bit
 at-highFirst m n zero h k = absurd (omega arith)

@@ -15,7 +15,7 @@ use borrow.Author.Tests.{eqb-true, eqb-false, lt-ltb}
 use Rattle.gf2.specs.Strings.{_⊕_}
 use Rattle.gf2.specs.Words.{bitOf, odd, bitAt, wordOf, tabulate}
 use Rattle.gf2.proofs.Tables.{length-tabulate, getD-tabulate, tabulate-cong, tabulate-unique}
-use Rattle.gf2.proofs.WordBits.{bitAt-wordOf-lt, wordOf-lt, wordOf-cong, wordOf-bits, wordOf-xor}
+use Rattle.gf2.proofs.WordBits.{bitAt-wordOf-lt, wordOf-lt, wordOf-cong, wordOf-bits, wordOf-xor, bitAt-half}
 use Rattle.circuit.specs.declared.Colour.{Colour}
 use Rattle.circuit.specs.declared.Colour.the-variants.{Red, Blue, Green}
 use Rattle.circuit.specs.Colours.{join}
@@ -181,10 +181,6 @@ lowest-weight : (w n : ℕ) → w % 2 * n ≡ cond (bitAt w 0) n 0
 unfolding bitAt odd
 lowest-weight w n = digit-weight (w % 2) n (omega arith) ∙ ap (λ (x : ℕ). cond (bitOf (x % 2)) n 0) (sym (div-one w))
 
-bitAt-half : (w j : ℕ) → bitAt w (1 + j) ≡ bitAt (w / 2) j
-unfolding bitAt
-bitAt-half w j = ap odd (sym (shr-shr w 1 j))
-
 -- A word with its lowest bit put last is the row of its bits.
 pub rotated-row : (w : ℕ) → w < 2 ^ 17 → bitOr (w / 2) (bitAnd w 1 * 2 ^ 16 % 2 ^ 32) ≡ rowOf (bitAt w)
 unfolding rowOf
@@ -195,7 +191,7 @@ rotated-row w h =
     ∙ add-comm (cond (bitAt w 0) (2 ^ 16) 0) (wordOf 16 (λ j. bitAt w ((j + 1) % 17)))
     ∙ sym (next-bit 16 (λ j. bitAt w ((j + 1) % 17)))
   where
-    above : (j : ℕ) → j < 16 → (j + 1) % 17 ≡ 1 + j
+    above : (j : ℕ) → j < 16 → (j + 1) % 17 ≡ suc j
     above j l = omega arith
 
     upper : wordOf 16 (λ j. bitAt w ((j + 1) % 17)) ≡ w / 2

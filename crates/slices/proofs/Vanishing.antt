@@ -1,6 +1,6 @@
 -- The inner sum is 0 exactly if the first system has no solution or the second vector is outside the row space.
 use mathlib.Core.Path.{_≡_, refl, sym, _∙_, ap, ap₂}
-use mathlib.Core.Bool.{Bool, true, false, not, cond, _&&_, _||_}
+use mathlib.Core.Bool.{Bool, true, false, not, cond, _&&_, _||_, false≢true}
 use mathlib.Core.List.{List, [], _∷_}
 use Prim.Native.Nat.{ℕ, zero, suc, _+_, _*_, _^_, _≤_}
 use native.Mathlib.Omega.{arith}
@@ -49,7 +49,7 @@ someString-one (suc m) p h = go (someString-one m (λ w. p (false ∷ w))) (some
         → (x : Bool) → someString m (λ w. p (false ∷ w)) ≡ x → (y : Bool) → someString m (λ w. p (true ∷ w)) ≡ y → x || y ≡ true → (w : BitString) × (length w ≡ suc m) × (p w ≡ true)
     go f g true e y q h = let t = f e in (false ∷ t .0, ap suc (t .1), t .2)
     go f g false e true q h = let t = g q in (true ∷ t .0, ap suc (t .1), t .2)
-    go f g false e false q h = let z : _≡_ {A = Bool} false true = h in absurd (let n : _≡_ {A = ℕ} 0 1 = cc in omega arith)
+    go f g false e false q h = absurd (false≢true h)
 
 ⊞-comm : (a b : BitString) → a ⊞ b ≡ b ⊞ a
 unfolding _⊞_

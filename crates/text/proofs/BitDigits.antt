@@ -9,10 +9,10 @@ use lib.ListN.{length}
 use lib.Dec.{eqb}
 use borrow.Author.Tests.{eqb-true}
 use Rattle.gf2.specs.Strings.{BitString}
+use Rattle.gf2.proofs.Impossible.{never}
 use Rattle.text.specs.Spelling.{bitDigits, numberFrom}
 use Rattle.text.specs.Reading.{bitsFrom}
 use Rattle.text.specs.declared.BitsAt.the-variants.{Read as BitsRead}
-use Rattle.text.proofs.Decimal.{never}
 
 -- Does a bit stand at the front?
 abbrev pub startsBit : List ℕ → Bool

@@ -7,11 +7,8 @@ use mathlib.Core.List.{List, [], _∷_, _++_, append-nil, append-assoc}
 use native.Mathlib.Omega.{arith}
 use lib.Dec.{ltb, leb}
 use borrow.Author.Tests.{ltb-true, ltb-false, lt-ltb, le-ltb, leb-true, le-leb}
+use Rattle.gf2.proofs.Impossible.{never}
 use Rattle.text.specs.Spelling.{digits, decimal}
-
--- No two constructors are equal.
-pub never : {A : Type 0} → _≡_ {A = ℕ} 0 1 → A
-never h = absurd (omega arith)
 
 -- ---- the digits of a number, from those of its tenth
 

@@ -10,6 +10,7 @@ use lib.Dec.{eqb}
 use lib.ListN.{length, getD, drop, drop-of-length-le, length-drop}
 use lib.Seq.{drop-cons}
 use borrow.Author.Tests.{le-leb, lt-leb, eq-eqb, ne-eqb, eqb-true, eqb-false}
+use Rattle.gf2.proofs.Impossible.{never}
 use Rattle.circuit.specs.declared.Colour.the-variants.{Red, Blue, Green}
 use Rattle.text.specs.Reading.{capped, begins, readKeyword, digitsFrom, numberFrom, readNumber, colourFrom, readColour, bitsFrom}
 use Rattle.text.specs.declared.KeywordAt.the-variants.{Ends, Missing as NoKeyword}
@@ -151,12 +152,12 @@ module _ (l : List ℕ) (n v i : ℕ) where
 begins-fits : (key l : List ℕ) → begins key l ≡ true → length key ≤ length l
 unfolding begins
 begins-fits [] l h = omega arith
-begins-fits (k ∷ ks) [] h = let z : _≡_ {A = ℕ} 0 1 = cc in absurd (omega arith)
+begins-fits (k ∷ ks) [] h = never (cc)
 begins-fits (k ∷ ks) (x ∷ xs) h = go (eqb x k) h (begins-fits ks xs)
   where
     go : (t : Bool) → cond t (begins ks xs) false ≡ true → (begins ks xs ≡ true → length ks ≤ length xs) → length (k ∷ ks) ≤ length (x ∷ xs)
     go true h again = let r = again h in omega arith
-    go false h again = let z : _≡_ {A = ℕ} 0 1 = cc in absurd (omega arith)
+    go false h again = never (cc)
 
 module _ (l : List ℕ) (at : ℕ) (key : List ℕ) (e : ℕ) (h : readKeyword l at key ≡ Ends e) where
   -- A keyword that was read stands there.
@@ -166,7 +167,7 @@ module _ (l : List ℕ) (at : ℕ) (key : List ℕ) (e : ℕ) (h : readKeyword l
     where
       go : (t : Bool) → cond t (Ends (at + length key)) NoKeyword ≡ Ends e → (t ≡ true) × (e ≡ at + length key)
       go true h = let z : at + length key ≡ e = cc in (refl, sym z)
-      go false h = let z : _≡_ {A = ℕ} 0 1 = cc in absurd (omega arith)
+      go false h = never (cc)
 
   -- It ends within the line.
   pub keyword-fits : 0 < length key → e ≤ length l
