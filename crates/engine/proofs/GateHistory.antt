@@ -1,17 +1,19 @@
 -- The codes of gates in the history: one gate more is one place written, and the last place held has the last gate's code.
-use mathlib.Core.Path.{_≡_, refl, ap, sym, _∙_}
+use mathlib.Core.Path.{_≡_, ap, sym, _∙_}
 use mathlib.Core.List.{List, [], _∷_, _++_, map, map-append, append-assoc}
-use Prim.Native.Nat.{ℕ, zero, suc, _+_, _≤_, _<_}
+use Prim.Native.Nat.{ℕ, suc, _+_, _≤_, _<_}
 use native.Mathlib.Nat.{add-zero}
 use native.Mathlib.Omega.{arith}
 use lib.ListN.{length, getD, take, drop, set, length-append, length-take, length-drop, length-map, take-append-drop}
 use lib.Seq.{drop-cons, set-at, getD-at, getD-take, take-take, length-take-le}
+use Rattle.gf2.proofs.Lists.{take-map}
 use Rattle.circuit.specs.declared.Gate.{Gate}
 use Rattle.circuit.specs.History.{codeOf}
 use Rattle.engine.specs.Calls.{stored}
 
 -- ---- gates put in
 
+-- Nothing put behind the gates held leaves the history as it was.
 pub stored-none : (held : ℕ) (h : List ℕ) → stored held [] h ≡ h
 unfolding stored
 stored-none held h = rw add-zero (take-append-drop held h)
@@ -44,16 +46,11 @@ module _ (held : ℕ) (gs : List Gate) (h : List ℕ) where
 pub codes-within : (gs : List Gate) (h : List ℕ) → take (length gs) h ≡ map codeOf gs → length gs ≤ length h
 codes-within gs h codes = omega (arith, ap length codes, length-take (length gs) h, length-map gs codeOf)
 
-take-map : (n : ℕ) (gs : List Gate) → take n (map codeOf gs) ≡ map codeOf (take n gs)
-take-map zero gs = refl
-take-map (suc n) [] = refl
-take-map (suc n) (g ∷ gs) = ap (λ (l : List ℕ). codeOf g ∷ l) (take-map n gs)
-
 -- The codes of the first gates stand in the first places.
 pub codes-front : (n : ℕ) (gs : List Gate) (h : List ℕ) → n ≤ length gs → take (length gs) h ≡ map codeOf gs
     → take (length (take n gs)) h ≡ map codeOf (take n gs)
 codes-front n gs h k codes =
-    rw (length-take-le n gs k) (sym (take-take n (length gs) h k) ∙ ap (take n) codes ∙ take-map n gs)
+    rw (length-take-le n gs k) (sym (take-take n (length gs) h k) ∙ ap (take n) codes ∙ take-map codeOf n gs)
 
 -- The last place held has the last gate's code.
 pub last-code : (gs : List Gate) (g : Gate) (h : List ℕ) → take (length (gs ++ (g ∷ []))) h ≡ map codeOf (gs ++ (g ∷ []))

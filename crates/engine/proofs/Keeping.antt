@@ -1,14 +1,13 @@
 -- Every call leaves a state and a history that hold an engine: what a line does keeps the engine sound and its gates' codes in the history.
-use mathlib.Core.Path.{_≡_, refl, ap, sym, _∙_}
+use mathlib.Core.Path.{_≡_, refl, ap, _∙_}
 use mathlib.Core.Bool.{Bool, true, false, cond}
-use mathlib.Core.List.{List, [], _∷_, _++_, map, append-assoc}
-use Prim.Native.Nat.{ℕ, zero, suc, _+_, _-_, _≤_}
-use native.Mathlib.Nat.{add-zero}
+use mathlib.Core.List.{List, _++_, map, map-append, append-assoc}
+use Prim.Native.Nat.{ℕ, suc, _+_, _-_, _≤_}
 use native.Mathlib.Omega.{arith}
 use lib.Dec.{eqb, ltb}
-use lib.ListN.{length, take, drop, length-append, length-take, length-drop, length-map, take-append-drop}
+use lib.ListN.{length, take, drop, length-append, length-map}
 use lib.Pow.{pow-pos}
-use lib.Seq.{take-at, take-take, length-take-le}
+use lib.Seq.{take-at, length-take-le}
 use borrow.Author.Tests.{ne-eqb}
 use Rattle.circuit.specs.declared.Gate.{Gate}
 use Rattle.circuit.specs.Sum.{areGates}
@@ -19,13 +18,15 @@ use Rattle.lines.specs.Forms.{formOf}
 use Rattle.answers.specs.declared.Answer.{Answer}
 use Rattle.engine.specs.declared.State.{State}
 use Rattle.engine.specs.declared.Reply.{Reply}
-use Rattle.engine.specs.Engine.{Purpose, amplitude, readout, OpenSum, Loaded, Engine, freshEngine, Sound}
+use Rattle.engine.specs.Engine.{Loaded, Engine, freshEngine, Sound}
 use Rattle.refusals.specs.Refusals.{lineGates, places}
-use Rattle.engine.specs.Response.{total, gatesOf}
+use Rattle.engine.specs.Response.{gatesOf}
 use Rattle.engine.specs.State.{encode, Holds}
 use Rattle.engine.specs.Calls.{refusalNumber, stored, answering, tooShort, skipped, Response, response, Given}
 use Rattle.engine.proofs.Views.{View, refuses, passesBy, creates, adds, takesBack, starts, opensAmplitude, opensReadout, worksOn, finishes, drops, lists, view}
 use Rattle.engine.proofs.LineColours.{line-colours}
+use Rattle.engine.proofs.GateHistory.{stored-none, length-stored, codes-front}
+use Rattle.engine.proofs.TurnRefused.{total-number}
 use Rattle.engine.proofs.HeldGates.{gates-by-tests, gates-added, gates-left}
 
 -- ---- soundness
@@ -64,24 +65,6 @@ record Stored (gs : List Gate) (h : List ℕ) : Type 0 where
   codes : take (length gs) h ≡ map codeOf gs
   room : length gs ≤ places (length h)
 
--- Nothing put behind the gates held leaves the history as it was.
-stored-none : (n : ℕ) (h : List ℕ) → stored n [] h ≡ h
-unfolding stored
-stored-none n h = rw (add-zero n) (take-append-drop n h)
-
-map-append : (gs hs : List Gate) → map codeOf (gs ++ hs) ≡ map codeOf gs ++ map codeOf hs
-map-append [] hs = refl
-map-append (g ∷ gs) hs = ap (λ (l : List ℕ). codeOf g ∷ l) (map-append gs hs)
-
-map-take : (n : ℕ) (gs : List Gate) → map codeOf (take n gs) ≡ take n (map codeOf gs)
-map-take zero gs = refl
-map-take (suc n) [] = refl
-map-take (suc n) (g ∷ gs) = ap (λ (l : List ℕ). codeOf g ∷ l) (map-take n gs)
-
-length-stored : (n : ℕ) (gs : List Gate) (h : List ℕ) → n + length gs ≤ length h → length (stored n gs h) ≡ length h
-unfolding stored
-length-stored n gs h w = simp (length-append, length-take, length-drop, length-map) (omega arith)
-
 stored-more :
     (gs hs : List Gate) (h : List ℕ) → Stored gs h → length gs + length hs ≤ places (length h) → Stored (gs ++ hs) (stored (length gs) hs h)
 unfolding places stored
@@ -92,26 +75,14 @@ stored-more gs hs h s w =
     }
   where
     behind : stored (length gs) hs h ≡ map codeOf (gs ++ hs) ++ drop (length gs + length hs) h
-    behind = rw (s .codes, map-append gs hs, append-assoc)
+    behind = rw (s .codes, map-append codeOf gs hs, append-assoc)
 
 stored-less : (gs : List Gate) (k : ℕ) (h : List ℕ) → Stored gs h → Stored (take (length gs - k) gs) h
 stored-less gs k h s =
     record {
-      codes =
-          ap (λ (n : ℕ). take n h) count
-          ∙ sym (take-take (length gs - k) (length gs) h (omega arith))
-          ∙ ap (take (length gs - k)) (s .codes)
-          ∙ sym (map-take (length gs - k) gs);
-      room = omega (arith, count, s .room);
+      codes = codes-front (length gs - k) gs h (omega arith) (s .codes);
+      room = omega (arith, length-take-le (length gs - k) gs (omega arith), s .room);
     }
-  where
-    count : length (take (length gs - k) gs) ≡ length gs - k
-    count = length-take-le (length gs - k) gs (omega arith)
-
-total-taken : (m : ℕ) (o : OpenSum) (p : Purpose) → refusalNumber (total m o p) ≡ 0
-unfolding refusalNumber total
-total-taken m o amplitude = refl
-total-taken m o readout = refl
 
 -- The history after a line: its gates are stored unless it is refused.
 unfoldable historyAfter : Loaded → Form → List ℕ → Answer → List ℕ → List ℕ
@@ -130,7 +101,7 @@ stored-kept {h = h} (starts {c = c} r b g) s = rw (stored-none (length (c .gates
 stored-kept {h = h} (opensAmplitude {c = c} r b g) s = rw (stored-none (length (c .gates)) h) s
 stored-kept {h = h} (opensReadout {c = c} x y) s = rw (stored-none (length (c .gates)) h) s
 stored-kept {h = h} (worksOn {c = c} w) s = rw (stored-none (length (c .gates)) h) s
-stored-kept {h = h} (finishes {c = c} {o = o} w) s = rw (total-taken (c .m) o (o .purpose), stored-none (length (c .gates)) h) s
+stored-kept {h = h} (finishes {c = c} {o = o} w) s = rw (total-number (c .m) o (o .purpose), stored-none (length (c .gates)) h) s
 stored-kept {h = h} (drops {c = c}) s = rw (stored-none (length (c .gates)) h) s
 stored-kept {h = h} (lists {c = c}) s = rw (stored-none (length (c .gates)) h) s
 

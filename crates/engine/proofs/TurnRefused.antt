@@ -52,7 +52,7 @@ gates-held (present c o) l = refl
 
 -- ---- an accepted line answers no refusal
 
-total-number : (m : ℕ) (o : OpenSum) (p : Purpose) → refusalNumber (total m o p) ≡ 0
+pub total-number : (m : ℕ) (o : OpenSum) (p : Purpose) → refusalNumber (total m o p) ≡ 0
 unfolding refusalNumber total
 total-number m o amplitude = refl
 total-number m o readout = refl
