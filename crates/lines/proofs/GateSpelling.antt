@@ -2,7 +2,7 @@
 use Prim.Native.Nat.{ℕ, _+_}
 use mathlib.Core.Path.{_≡_, refl, ap, sym, _∙_}
 use mathlib.Core.Logic.{_⊎_, inl, inr}
-use mathlib.Core.List.{List, [], _∷_, _++_, append-assoc, append-nil}
+use mathlib.Core.List.{List, [], _∷_, _++_, append-nil}
 use native.Mathlib.Omega.{arith}
 use lib.ListN.{length, drop, length-append}
 use lib.Seq.{drop-append-seam, take-append-seam}
@@ -11,11 +11,12 @@ use Rattle.circuit.specs.declared.Colour.{Colour}
 use Rattle.circuit.specs.declared.Spot.{Spot}
 use Rattle.circuit.specs.declared.Gate.{Gate}
 use Rattle.circuit.specs.declared.Gate.the-variants.{Ccz, Cz, Cnot}
-use Rattle.text.specs.Spelling.{bytes, decimal, letter, spelledSpot, spelledGate}
+use Rattle.text.specs.Spelling.{bytes, decimal, spelledSpot, spelledGate}
 use Rattle.text.specs.Reading.{capped, begins, readKeyword}
 use Rattle.text.proofs.Items.{past, spaced}
 use Rattle.text.proofs.ItemsSpelled.{keyword-then, number-then, spaced-number-then, colour-then}
 use Rattle.text.proofs.ItemCases.{keyword-cases, number-cases, spaced-number-cases, colour-cases}
+use Rattle.text.proofs.GateItems.{cczItems, czItems, cnotItems, spot-items, ccz-items, cz-items, cnot-items}
 use Rattle.lines.specs.Spelling.{heldGate}
 use Rattle.lines.specs.Gates.{readCcz, readSpot, readCz, readCnot, readGate, gateEnd, gatePart, withSpot}
 use Rattle.lines.specs.declared.SpotAt.{SpotAt}
@@ -23,42 +24,8 @@ use Rattle.lines.specs.declared.SpotAt.the-variants.{Read as SpotRead, M
 use Rattle.lines.specs.declared.GateAt.{GateAt}
 use Rattle.lines.specs.declared.GateAt.the-variants.{Read as GateRead, Missing as NoGate}
 
--- ---- a gate's spelling and what follows it, item by item
-
 abbrev pub heldSpot : Spot → Spot
 heldSpot p = record { colour = p .colour; position = capped (p .position) }
-
--- C i) and what follows
-abbrev pub spotItems : Colour → ℕ → List ℕ → List ℕ
-spotItems c i rest = letter c ∷ spaced (decimal i ++ (bytes ")" ++ rest))
-
-pub spot-items : (p : Spot) (rest : List ℕ) → spelledSpot p ++ rest ≡ bytes "(" ++ spotItems (p .colour) (p .position) rest
-unfolding spelledSpot
-spot-items p rest = simp append-assoc
-
--- i j k) and what follows
-abbrev pub cczItems : ℕ → ℕ → ℕ → List ℕ → List ℕ
-cczItems i j k rest = decimal i ++ spaced (decimal j ++ spaced (decimal k ++ (bytes ")" ++ rest)))
-
-pub ccz-items : (i j k : ℕ) (rest : List ℕ) → spelledGate (Ccz i j k) ++ rest ≡ bytes "(ccz " ++ cczItems i j k rest
-unfolding spelledGate
-ccz-items i j k rest = simp append-assoc
-
--- (C i) (C j)) and what follows
-abbrev pub czItems : Spot → Spot → List ℕ → List ℕ
-czItems p q rest = spelledSpot p ++ spaced (spelledSpot q ++ (bytes ")" ++ rest))
-
-pub cz-items : (p q : Spot) (rest : List ℕ) → spelledGate (Cz p q) ++ rest ≡ bytes "(cz " ++ czItems p q rest
-unfolding spelledGate
-cz-items p q rest = simp append-assoc
-
--- C control target) and what follows
-abbrev pub cnotItems : Colour → ℕ → ℕ → List ℕ → List ℕ
-cnotItems C c t rest = letter C ∷ spaced (decimal c ++ spaced (decimal t ++ (bytes ")" ++ rest)))
-
-pub cnot-items : (C : Colour) (c t : ℕ) (rest : List ℕ) → spelledGate (Cnot C c t) ++ rest ≡ bytes "(cnot " ++ cnotItems C c t rest
-unfolding spelledGate
-cnot-items C c t rest = simp append-assoc
 
 -- ---- what is spelled is read
 

@@ -5,3 +5,5 @@ pub mod Items
 pub mod ItemsSpelled
 pub mod ItemCases
 pub mod DecimalUnique
+pub mod GateItems
+pub mod GatesUnique
