@@ -1,7 +1,7 @@
 -- Gates and their codes: a code fits its word, and the gate of a gate's code is that gate.
 use mathlib.Core.Path.{_≡_, refl, _∙_}
 use mathlib.Core.Bool.{true}
-use Prim.Native.Nat.{ℕ, _+_, _*_, _/_, _%_, _^_, _≤_, _<_}
+use Prim.Native.Nat.{ℕ, _+_, _*_, _/_, _%_, _≤_, _<_}
 use native.Mathlib.Nat.{mod-eq-of-lt}
 use native.Mathlib.Omega.{arith}
 use Rattle.circuit.specs.declared.Colour.{Colour}
@@ -20,18 +20,6 @@ cz-kind C D = omega (arith, number-lt C, number-lt D)
 
 pub cnot-kind : (C : Colour) → 10 + numberOf C ≤ 12
 cnot-kind C = omega (arith, number-lt C)
-
-packed-fits : (kind a b c : ℕ) → kind ≤ 12 → packed kind a b c < 2 ^ 32
-unfolding packed
-packed-fits kind a b c h = omega arith
-
-pub codeOf-fits : (g : Gate) → codeOf g < 2 ^ 32
-unfolding codeOf
-codeOf-fits (Ccz i j k) = packed-fits 0 i j k (omega arith)
-codeOf-fits (Cz p q) =
-    packed-fits (1 + numberOf (p .colour) * 3 + numberOf (q .colour)) (p .position) (q .position) 0
-    (omega (arith, cz-kind (p .colour) (q .colour)))
-codeOf-fits (Cnot C c t) = packed-fits (10 + numberOf C) c t 0 (cnot-kind C)
 
 -- The digits are found again.
 gateOf-packed : (kind a b c : ℕ) → a < 32 → b < 32 → c < 32 → gateOf (packed kind a b c) ≡ gateOfKind kind a b c

@@ -4,7 +4,7 @@ use mathlib.Core.Bool.{Bool, true, false, false≢true, cond, _||_}
 use Prim.Native.Nat.{ℕ, _*_, _/_, _%_, _^_, _<_, _≤_}
 use native.Mathlib.Omega.{arith}
 use lib.Bits.{bitXor, xor-lt}
-use lib.Dec.{eqb, ltb, lit<}
+use lib.Dec.{eqb, ltb}
 use borrow.Author.Tests.{eqb-true, ltb-true, ltb-false}
 use Rattle.gf2.specs.Strings.{isZero}
 use Rattle.gf2.specs.Words.{bitOf, odd, bitAt, lowFirst}
@@ -19,9 +19,6 @@ use Rattle.elimination.proofs.Equations.{clear-is, clear-keeps}
 pub record Narrow (m x : ℕ) : Type 0 where
   pub fits : x < 2 ^ 17
   pub blank : (k : ℕ) → m ≤ k → k < 16 → bitAt x k ≡ false
-
-pub narrow-zero : (m : ℕ) → Narrow m 0
-narrow-zero m = record { fits = lit< tt; blank = λ k h l. bitAt-zero k }
 
 pub narrow-clear : {m x y : ℕ} (j : ℕ) → Narrow m x → Narrow m y → Narrow m (clear x j y)
 narrow-clear {m} {x} {y} j a b = record {

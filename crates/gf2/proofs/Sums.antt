@@ -6,7 +6,7 @@ use mathlib.Core.List.{[], _∷_}
 use Prim.Native.Nat.{ℕ, zero, suc, _^_, _≤_, _<_}
 use native.Mathlib.Omega.{arith}
 use lib.ListN.{length}
-use lib.IntN.{ℤ, pos, _+ℤ_, _*ℤ_, negℤ, +ℤ-comm, +ℤ-invr, negℤ-+ℤ, *ℤ-comm}
+use lib.IntN.{ℤ, pos, _+ℤ_, _*ℤ_, negℤ, +ℤ-comm, +ℤ-invr, negℤ-+ℤ}
 use Rattle.gf2.specs.Strings.{BitString, _⊕_, _⊞_, bit, flip, cnot}
 use Rattle.gf2.specs.Sums.{sum}
 use Rattle.gf2.proofs.Integers.{ring, add-ac, mul-addℤ}
@@ -34,9 +34,6 @@ unfolding sum
 sum-mul zero c f = refl
 sum-mul (suc m) c f =
     ap₂ _+ℤ_ (sum-mul m c (λ w. f (false ∷ w))) (sum-mul m c (λ w. f (true ∷ w))) ∙ simp mul-addℤ
-
-pub sum-mul-r : (m : ℕ) (c : ℤ) (f : BitString → ℤ) → sum m (λ w. f w *ℤ c) ≡ sum m f *ℤ c
-sum-mul-r m c f = sum-ext m (λ w. f w *ℤ c) (λ w. c *ℤ f w) (λ w. *ℤ-comm (f w) c) ∙ sum-mul m c f ∙ *ℤ-comm c (sum m f)
 
 pub sum-neg : (m : ℕ) (f : BitString → ℤ) → sum m (λ w. negℤ (f w)) ≡ negℤ (sum m f)
 unfolding sum

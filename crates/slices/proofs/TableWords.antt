@@ -77,13 +77,6 @@ packed-xor x y z u v w hx hy hu hv =
 row-fits : (a : ℕ → ℕ → Bool) (i : ℕ) → rowAt a i < 2 ^ 21
 row-fits a i = omega (arith, rowAt-lt a i)
 
-pub packedWord-lt : (a : ℕ → ℕ → Bool) (w : ℕ) → packedWord a w < 2 ^ 63
-unfolding packedWord
-packedWord-lt a w = go (rowAt-lt a (3 * w)) (rowAt-lt a (3 * w + 1)) (rowAt-lt a (3 * w + 2))
-  where
-    go : {x y z : ℕ} → x < 2 ^ 17 → y < 2 ^ 17 → z < 2 ^ 17 → x + y * 2 ^ 21 + z * 2 ^ 42 < 2 ^ 63
-    go p q r = omega arith
-
 pub packedWord-cong : (a b : ℕ → ℕ → Bool) → ((i j : ℕ) → i ≤ 16 → j ≤ 16 → a i j ≡ b i j) → (w : ℕ) → packedWord a w ≡ packedWord b w
 unfolding packedWord
 packedWord-cong a b h w =
@@ -147,10 +140,6 @@ rowsOf-packedRows a =
     three w rs = rowAt a (3 * w) ∷ rowAt a (3 * w + 1) ∷ rowAt a (3 * w + 2) ∷ rs
 
 -- ---- the table
-
-pub length-tableOf : (C : Colour) (f : Polynomial) → length (tableOf C f) ≡ 102
-unfolding tableOf
-length-tableOf C f = length-tabulate 102 (λ n. packedWord (λ i j. f (join C (n / 6) i j)) (n % 6))
 
 -- Word w of index k.
 pub tableOf-at : (C : Colour) (f : Polynomial) (k w : ℕ) → k ≤ 16 → w < 6 → getD (tableOf C f) (6 * k + w) 0 ≡ packedWord (λ i j. f (join C k i j)) w

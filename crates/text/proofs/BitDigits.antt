@@ -19,11 +19,6 @@ abbrev pub startsBit : List ℕ → Bool
 startsBit [] = false
 startsBit (x ∷ xs) = eqb x 48 || eqb x 49
 
-pub length-bits : (s : BitString) → length (bitDigits s) ≡ length s
-unfolding bitDigits
-length-bits [] = refl
-length-bits (b ∷ s) = ap suc (length-bits s)
-
 bits-end : (n v at : ℕ) (rest : List ℕ) → startsBit rest ≡ false → bitsFrom n v at rest ≡ BitsRead (record { len = n; value = v }) at
 unfolding bitsFrom
 bits-end n v at [] s = refl

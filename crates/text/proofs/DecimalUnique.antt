@@ -17,14 +17,6 @@ use Rattle.text.proofs.Decimal.{decimal-one, decimal-more, by-tenths, i
 pub decimal-unique : (a b : ℕ) → decimal a ≡ decimal b → a ≡ b
 decimal-unique a b e = sym (value-of-decimal a) ∙ ap (valueFrom 0) e ∙ value-of-decimal b
 
--- A number and the byte after it, where that is no digit, are determined by the bytes.
-pub decimal-followed : (a b x y : ℕ) (r s : List ℕ) → isDigit x ≡ false → isDigit y ≡ false →
-    decimal a ++ (x ∷ r) ≡ decimal b ++ (y ∷ s) → (a ≡ b) × ((x ∷ r) ≡ (y ∷ s))
-decimal-followed a b x y r s h k e = (
-  sym (value-decimal a (x ∷ r) h) ∙ ap (valueFrom 0) e ∙ value-decimal b (y ∷ s) k,
-  sym (after-decimal a (x ∷ r) h) ∙ ap afterDigits e ∙ after-decimal b (y ∷ s) k,
-)
-
 -- ---- how many digits
 
 pub decimal-length-more : (n : ℕ) → 10 ≤ n → length (decimal n) ≡ length (decimal (n / 10)) + 1
