@@ -19,7 +19,8 @@ use Rattle.circuit.specs.Sum.{isPosition, areGates}
 use Rattle.circuit.specs.Polynomial.{Term, Polynomial, term, sameTerm, empty, toggled, appliedAll, polynomial}
 use Rattle.circuit.specs.Listing.{overPositions, triples, pairsBeside, everyTerm, among, listing, occurrences, gatesOf}
 use Rattle.circuit.proofs.TermGates.{applied-gateOfTerm}
-use Rattle.circuit.proofs.PolynomialTerms.{IsTerm, same-term, is-position, position-true, position-false, polynomial-terms}
+use Rattle.circuit.proofs.Gates.{is-position}
+use Rattle.circuit.proofs.PolynomialTerms.{IsTerm, same-term, position-true, position-false, polynomial-terms}
 
 -- ---- how often a term stands among those of a polynomial
 

@@ -29,9 +29,9 @@ AllValid m (g ∷ gs) = Valid m g × AllValid m gs
 
 -- ---- the tests and what they tell
 
-position-of : (m p : ℕ) → isPosition m p ≡ true → Position m p
+pub is-position : (m p : ℕ) → isPosition m p ≡ true → Position m p
 unfolding isPosition
-position-of m p h = (leb-true 1 p (and-both (leb 1 p) (leb p m) h .0), leb-true p m (and-both (leb 1 p) (leb p m) h .1))
+is-position m p h = let q = and-both (leb 1 p) (leb p m) h in (leb-true 1 p (q .0), leb-true p m (q .1))
 
 not-false : (b : Bool) → not b ≡ true → b ≡ true → ⊥
 not-false true h e = false≢true h
@@ -41,20 +41,20 @@ pub valid-of : (m : ℕ) (g : Gate) → isGate m g ≡ true → Valid m g
 unfolding isGate
 valid-of m (Ccz i j k) h =
     let rest = and-both (isPosition m i) (isPosition m j && isPosition m k) h .1 in (
-      position-of m i (and-both (isPosition m i) (isPosition m j && isPosition m k) h .0),
-      position-of m j (and-both (isPosition m j) (isPosition m k) rest .0),
-      position-of m k (and-both (isPosition m j) (isPosition m k) rest .1),
+      is-position m i (and-both (isPosition m i) (isPosition m j && isPosition m k) h .0),
+      is-position m j (and-both (isPosition m j) (isPosition m k) rest .0),
+      is-position m k (and-both (isPosition m j) (isPosition m k) rest .1),
     )
 valid-of m (Cz p q) h =
     let rest = and-both (isPosition m (p .position)) (isPosition m (q .position) && not (sameColour (p .colour) (q .colour))) h .1 in (
-      position-of m (p .position) (and-both (isPosition m (p .position)) (isPosition m (q .position) && not (sameColour (p .colour) (q .colour))) h .0),
-      position-of m (q .position) (and-both (isPosition m (q .position)) (not (sameColour (p .colour) (q .colour))) rest .0),
+      is-position m (p .position) (and-both (isPosition m (p .position)) (isPosition m (q .position) && not (sameColour (p .colour) (q .colour))) h .0),
+      is-position m (q .position) (and-both (isPosition m (q .position)) (not (sameColour (p .colour) (q .colour))) rest .0),
       λ e. not-false (sameColour (p .colour) (q .colour)) (and-both (isPosition m (q .position)) (not (sameColour (p .colour) (q .colour))) rest .1) (eq-eqb (numberOf (p .colour)) (numberOf (q .colour)) (ap numberOf e)),
     )
 valid-of m (Cnot C c t) h =
     let rest = and-both (isPosition m c) (isPosition m t && not (eqb c t)) h .1 in (
-      position-of m c (and-both (isPosition m c) (isPosition m t && not (eqb c t)) h .0),
-      position-of m t (and-both (isPosition m t) (not (eqb c t)) rest .0),
+      is-position m c (and-both (isPosition m c) (isPosition m t && not (eqb c t)) h .0),
+      is-position m t (and-both (isPosition m t) (not (eqb c t)) rest .0),
       λ e. not-false (eqb c t) (and-both (isPosition m t) (not (eqb c t)) rest .1) (eq-eqb c t e),
     )
 

@@ -5,8 +5,8 @@ use mathlib.Core.Bool.{Bool, true, false, not, _&&_, false≢true}
 use mathlib.Core.List.{List, [], _∷_}
 use Prim.Native.Nat.{ℕ, _+_, _≤_}
 use native.Mathlib.Omega.{arith}
-use lib.Dec.{eqb, leb}
-use borrow.Author.Tests.{leb-true, le-leb, eqb-true, not-true}
+use lib.Dec.{eqb}
+use borrow.Author.Tests.{le-leb, eqb-true, not-true}
 use Rattle.gf2.specs.Strings.{_⊕_}
 use Rattle.gf2.proofs.Bits.{and-both}
 use Rattle.circuit.specs.declared.Colour.{Colour}
@@ -16,6 +16,7 @@ use Rattle.circuit.specs.declared.Gate.the-variants.{Ccz, Cz, Cnot}
 use Rattle.circuit.specs.Colours.{the, put, join, first, second, sameColour}
 use Rattle.circuit.specs.Sum.{isPosition, isGate, areGates}
 use Rattle.circuit.specs.Polynomial.{Term, Polynomial, term, sameTerm, empty, toggled, substituted, pair, applied, appliedAll, polynomial}
+use Rattle.circuit.proofs.Gates.{is-position}
 
 -- A term of a circuit of m positions: at most one of its indices is 0.
 pub record IsTerm (m : ℕ) (h : Term) : Type 0 where
@@ -44,10 +45,6 @@ same-term h k e =
   where
     parts : h .red ≡ k .red → h .blue ≡ k .blue → h .green ≡ k .green → h ≡ k
     parts p q r = ap₂ (λ (i j : ℕ). record { red = i; blue = j; green = h .green }) p q ∙ ap (λ (n : ℕ). record { red = k .red; blue = k .blue; green = n }) r
-
-pub is-position : (m p : ℕ) → isPosition m p ≡ true → (1 ≤ p) × (p ≤ m)
-unfolding isPosition
-is-position m p e = let q = and-both (leb 1 p) (leb p m) e in (leb-true 1 p (q .0), leb-true p m (q .1))
 
 pub position-true : (m p : ℕ) → 1 ≤ p → p ≤ m → isPosition m p ≡ true
 unfolding isPosition

@@ -1,9 +1,8 @@
 -- The place of a row's lowest digit: it is below 21, the row has no digit below it, and it has one there unless the place is 20.
 use mathlib.Core.Path.{_≡_, refl, sym, ap, _∙_}
-use lib.Dec.{lit<}
-use lib.Pow.{shl-exact, split}
+use lib.Pow.{split}
 use Prim.Native.Nat.{ℕ, zero, suc, _+_, _*_, _/_, _%_, _^_, _<_, _≤_, max, zero-le, suc-le-suc}
-use native.Mathlib.Nat.{pow-succ', div-div-eq-div-mul, div-one, one-mul, mul-one, mul-left-comm}
+use native.Mathlib.Nat.{pow-succ', div-div-eq-div-mul, div-one, mul-one, mul-left-comm}
 use native.Mathlib.Omega.{arith}
 use lib.Bits.{bitOr, or-shr, or-step, or-mod, or-add-and, and-le-l, and-le-r}
 use lib.Count.{trailingZeros, under}
@@ -38,10 +37,6 @@ odd n =
 pub place-lt : (x : ℕ) → place x < 21
 unfolding place
 place-lt x = suc-le-suc (zeros-le 64 (bitOr x 1048576) 20 (ap (λ (t : ℕ). t % 2) (or-shr x 1048576 20) ∙ odd (x / 2 ^ 20)))
-
--- a one shifted to a place
-pub one-at : (k : ℕ) → k < 21 → 1 * 2 ^ k % 2 ^ 64 ≡ 2 ^ k
-one-at k h = shl-exact 1 k 64 (lit< tt) (omega arith) ∙ one-mul (2 ^ k)
 
 whole : (n : ℕ) → n / 1 * 1 ≡ n
 whole n = mul-one (n / 1) ∙ div-one n

@@ -10,7 +10,8 @@ use Rattle.circuit.specs.declared.Gate.{Gate}
 use Rattle.circuit.specs.declared.Gate.the-variants as Gate
 use Rattle.circuit.specs.Colours.{sameColour}
 use Rattle.circuit.specs.Sum.{isPosition, isGate, areGates}
-use Rattle.circuit.proofs.PolynomialTerms.{is-position, position-true}
+use Rattle.circuit.proofs.PolynomialTerms.{position-true}
+use Rattle.circuit.proofs.Gates.{is-position}
 
 module _ (m n : ℕ) (more : m ≤ n) where
   position-more : (p : ℕ) → isPosition m p ≡ true → isPosition n p ≡ true

@@ -8,7 +8,7 @@ use native.Mathlib.Omega.{arith}
 use lib.Dec.{eqb, ltb, eqb·zero-suc, eqb·suc-zero, eqb·suc-suc}
 use lib.Bits.{bitAnd, bitXor, and-shr, xor-shr, xor-shifted, xor-comm, xor-zero-r, xor-lt}
 use lib.Arith.{lt-one}
-use lib.Pow.{pow-pos, pow-lt, pow-mono, split, field, mod-mod-pow}
+use lib.Pow.{pow-pos, pow-lt, pow-mono, split, field, mod-mod-pow, shl-exact}
 use borrow.Author.Tests.{eqb-true, eqb-false, ltb-true, ltb-false, lt-ltb, le-ltb}
 use Rattle.gf2.specs.Strings.{_⊕_}
 use Rattle.gf2.specs.Words.{bitOf, odd, bitAt, wordOf}
@@ -48,6 +48,10 @@ bitAt-half w k = ap odd (ap (λ (x : ℕ). w / x) (pow-succ' 2 k) ∙ sym (div-d
 pub bitAt-zero : (k : ℕ) → bitAt 0 k ≡ false
 unfolding bitAt odd bitOf
 bitAt-zero k = ap odd (zero-div (2 ^ k))
+
+-- A one shifted to a place within the width.
+pub one-shifted : (width k : ℕ) → k < width → 1 * 2 ^ k % 2 ^ width ≡ 2 ^ k
+one-shifted width k h = shl-exact {a = 1} 1 k width (omega arith) (omega arith) ∙ one-mul (2 ^ k)
 
 -- A power of two has one bit.
 pub bitAt-pow : (n k : ℕ) → bitAt (2 ^ k) n ≡ eqb n k

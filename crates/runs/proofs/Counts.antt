@@ -5,13 +5,12 @@ use mathlib.Core.List.{List}
 use Prim.Native.Nat.{ℕ, _*_, _^_}
 use native.Mathlib.Omega.{arith}
 use lib.Bits.{xor-zero-r}
-use lib.IntN.{pos, natAbs, _*ℤ_}
+use lib.IntN.{pos, _*ℤ_}
 use lib.ListN.{length}
 use Rattle.gf2.specs.Strings.{BitString, _⊞_}
 use Rattle.gf2.specs.Words.{highFirst}
 use Rattle.gf2.proofs.HighFirst.{highFirst-xor, length-highFirst}
 use Rattle.gf2.proofs.Parseval.{square as squared}
-use Rattle.gf2.proofs.Sums.{sum-cong}
 use Rattle.circuit.specs.declared.Colour.{Colour}
 use Rattle.circuit.specs.declared.Colour.the-variants as Colour
 use Rattle.circuit.specs.declared.Gate.{Gate}
@@ -21,7 +20,7 @@ use Rattle.circuit.specs.Polynomial.{polynomial}
 use Rattle.slices.specs.Packing.{strings}
 use Rattle.slices.specs.Totals.{amplitudeAfter, readoutCount, withStart}
 use Rattle.slices.specs.Rank.{tally}
-use Rattle.slices.proofs.Rank.{tally-sum}
+use Rattle.slices.proofs.Rank.{tally-cong}
 use Rattle.slices.proofs.Readout.{readout-squares, readout-total}
 use Rattle.slices.proofs.Amplitude.{amplitude-is-signedSum}
 use Rattle.engine.specs.Engine.{Strings, Circuit, OpenSum}
@@ -148,10 +147,6 @@ counted-exact m gates C X Y t n c =
           ap (λ (k : ℕ). pos (2 ^ (3 * m)) *ℤ pos k) (c .count)
           ∙ readout-squares m gates C X Y (c .sound) (omega (arith, c .first-long)) (omega (arith, c .second-long));
     }
-
-tally-cong : (m : ℕ) (f g : BitString → ℕ) → ((w : BitString) → length w ≡ m → f w ≡ g w) → tally m f ≡ tally m g
-tally-cong m f g h =
-    ap natAbs (sym (tally-sum m f) ∙ sum-cong m (λ w. pos (f w)) (λ w. pos (g w)) (λ w e. ap pos (h w e)) ∙ tally-sum m g)
 
 -- The counts of all pairs add up to 2^(3m).
 pub counted-total :

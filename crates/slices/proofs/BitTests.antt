@@ -1,13 +1,13 @@
 -- Bits of a word as the code tests and sets them.
 use mathlib.Core.Path.{_≡_, refl, sym, _∙_, ap, ap₂}
 use mathlib.Core.Bool.{Bool, true, false, not, _&&_}
-use Prim.Native.Nat.{ℕ, zero, suc, _+_, _*_, _/_, _%_, _^_, _≤_}
-use native.Mathlib.Nat.{one-mul, mod-one}
+use Prim.Native.Nat.{ℕ, zero, suc, _+_, _*_, _/_, _%_, _^_}
+use native.Mathlib.Nat.{mod-one}
 use native.Mathlib.Numerals.{add-one}
 use native.Mathlib.Omega.{arith}
 use lib.Bits.{bitAnd, and-mask}
-use lib.Dec.{eqb, lit<}
-use lib.Pow.{mod-pow-add, shl-exact}
+use lib.Dec.{eqb}
+use lib.Pow.{mod-pow-add}
 use borrow.Author.Tests.{eqb-true, eqb-false, eq-eqb, ne-eqb}
 use Rattle.gf2.specs.Strings.{isZero}
 use Rattle.gf2.specs.Words.{bitOf, odd, bitAt, lowFirst}
@@ -37,6 +37,3 @@ low-zero (suc m) w = ap (λ (x : ℕ). eqb x 0) digits ∙ go (w % 2) refl (eqb 
 
 pub low-tested : (w : ℕ) → not (eqb (bitAnd w 65535) 0) ≡ not (isZero (lowFirst 16 w))
 low-tested w = ap not (ap (λ (x : ℕ). eqb x 0) (and-mask w 16) ∙ low-zero 16 w)
-
-pub one-shifted : (e : ℕ) → e ≤ 62 → 1 * 2 ^ e % 2 ^ 64 ≡ 2 ^ e
-one-shifted e h = shl-exact 1 e 64 (lit< tt) (omega arith) ∙ one-mul (2 ^ e)

@@ -15,11 +15,11 @@ use Rattle.gf2.specs.Sums.{sgn}
 use Rattle.gf2.specs.Words.{bitAt}
 use Rattle.gf2.proofs.Integers.{one-*ℤ, negone-*ℤ}
 use Rattle.gf2.proofs.Bounds.{neg-abs}
+use Rattle.gf2.proofs.WordBits.{one-shifted}
 use Rattle.elimination.specs.declared.Outcome.{Outcome}
 use Rattle.slices.specs.declared.slice.Slice.{Slice}
 use Rattle.slices.specs.Totals.{isNought}
 use Rattle.slices.specs.Answers.{nought, cleared, vanishing, answerOf, shareOf}
-use Rattle.slices.proofs.BitTests.{one-shifted}
 
 -- ---- signed numbers
 
@@ -31,10 +31,10 @@ power-fits : (e : ℕ) → e ≤ 62 → 2 ^ e < 2 ^ 63
 power-fits e h = omega (arith, pow-mono h)
 
 pub power-word : (e : ℕ) → e ≤ 62 → toZ w64 (1 * 2 ^ e % 2 ^ 64) ≡ pos (2 ^ e)
-power-word e h = ap (toZ w64) (one-shifted e h) ∙ toZ-pos w64 {n = 2 ^ e} (power-fits e h)
+power-word e h = ap (toZ w64) (one-shifted 64 e (omega arith)) ∙ toZ-pos w64 {n = 2 ^ e} (power-fits e h)
 
 pub power-cast : (e : ℕ) → e ≤ 62 → SFits w64 (pos (1 * 2 ^ e % 2 ^ 64))
-power-cast e h = rw (one-shifted e h) (record { sfits = power-fits e h })
+power-cast e h = rw (one-shifted 64 e (omega arith)) (record { sfits = power-fits e h })
 
 zero-minus : (z : ℤ) → pos 0 -ℤ z ≡ negℤ z
 zero-minus z = +ℤ-idl (negℤ z)

@@ -16,7 +16,7 @@ use Rattle.gf2.specs.Strings.{BitString, _⊕_, _⊞_, dot, bit, isZero}
 use Rattle.gf2.specs.Sums.{sum, sgn}
 use Rattle.gf2.proofs.Integers.{*ℤ-assoc, one-*ℤ}
 use Rattle.gf2.proofs.Bits.{false-⊕, sgn-⊕}
-use Rattle.gf2.proofs.Sums.{sum-ext, sum-mul}
+use Rattle.gf2.proofs.Sums.{sum-ext, sum-mul, sum-cong}
 use Rattle.gf2.proofs.Parseval.{double-pow}
 use Rattle.circuit.specs.declared.Colour.{Colour}
 use Rattle.circuit.specs.Polynomial.{Polynomial}
@@ -103,6 +103,10 @@ pub tally-sum : (m : ℕ) (f : BitString → ℕ) → sum m (λ w. pos (f w)) �
 unfolding sum tally
 tally-sum zero f = refl
 tally-sum (suc m) f = ap₂ _+ℤ_ (tally-sum m (λ w. f (false ∷ w))) (tally-sum m (λ w. f (true ∷ w))) ∙ pos-+ℤ-pos (tally m (λ w. f (false ∷ w))) (tally m (λ w. f (true ∷ w)))
+
+pub tally-cong : (m : ℕ) (f g : BitString → ℕ) → ((w : BitString) → length w ≡ m → f w ≡ g w) → tally m f ≡ tally m g
+tally-cong m f g h =
+    ap natAbs (sym (tally-sum m f) ∙ sum-cong m (λ w. pos (f w)) (λ w. pos (g w)) (λ w e. ap pos (h w e)) ∙ tally-sum m g)
 
 pub plains-equations : (rs : List BitString) (a v : BitString) → offs (plains (equations rs a)) v ≡ times rs v
 unfolding plains plain equations offs off times

@@ -2,7 +2,7 @@
 use mathlib.Core.Path.{_≡_, refl, sym, _∙_, ap, ap₂, subst}
 use mathlib.Core.Logic.{inl, inr}
 use mathlib.Core.Bool.{Bool, true, false, cond}
-use mathlib.Core.List.{List, [], _∷_}
+use mathlib.Core.List.{List}
 use Prim.Native.Nat.{ℕ, zero, suc, _+_, _-_, _*_, _/_, _^_, _≤_, _<_}
 use native.Mathlib.Nat.{mul-div-cancel-left}
 use native.Mathlib.Omega.{arith}
@@ -27,7 +27,7 @@ use Rattle.slices.specs.Slices.{gamma, innerSum}
 use Rattle.slices.specs.Rank.{tally, rank}
 use Rattle.slices.specs.Totals.{isNought, share, tallyBelow, readoutAfter, readoutCount}
 use Rattle.slices.proofs.Slicing.{signedSum-by-slices}
-use Rattle.slices.proofs.Rank.{tally-sum, IsPower, rank-le, innerSum-size}
+use Rattle.slices.proofs.Rank.{tally-sum, IsPower, rank-le, innerSum-size, tally-cong}
 
 -- The readout count as a sum over strings.
 unfoldable readoutTally : ℕ → Polynomial → Colour → BitString → BitString → ℕ
@@ -189,14 +189,9 @@ pub readout-squares :
 readout-squares m gs C X Y v hX hY =
     ap (λ (n : ℕ). pos (2 ^ (3 * m)) *ℤ pos n) (count-is-tally m (polynomial gs) C X Y) ∙ readoutTally-squares C m gs X Y v hX hY
 
-tally-ext : (m : ℕ) (f g : BitString → ℕ) → ((w : BitString) → f w ≡ g w) → tally m f ≡ tally m g
-unfolding tally
-tally-ext zero f g h = h []
-tally-ext (suc m) f g h = ap₂ _+_ (tally-ext m (λ w. f (false ∷ w)) (λ w. g (false ∷ w)) (λ w. h (false ∷ w))) (tally-ext m (λ w. f (true ∷ w)) (λ w. g (true ∷ w)) (λ w. h (true ∷ w)))
-
 -- The T of all 2^(2m) pairs add up to 2^(3m).
 pub readout-total : (m : ℕ) (f : Polynomial) (C : Colour) → tally m (λ X. tally m (λ Y. readoutCount m f C X Y)) ≡ 2 ^ (3 * m)
 readout-total m f C =
-    tally-ext m (λ X. tally m (λ Y. readoutCount m f C X Y)) (λ X. tally m (λ Y. readoutTally m f C X Y))
-    (λ X. tally-ext m (λ Y. readoutCount m f C X Y) (λ Y. readoutTally m f C X Y) (λ Y. count-is-tally m f C X Y))
+    tally-cong m (λ X. tally m (λ Y. readoutCount m f C X Y)) (λ X. tally m (λ Y. readoutTally m f C X Y))
+    (λ X e. tally-cong m (λ Y. readoutCount m f C X Y) (λ Y. readoutTally m f C X Y) (λ Y e. count-is-tally m f C X Y))
     ∙ readoutTally-total C m f

@@ -3,9 +3,10 @@ use Prim.Native.Nat.{ℕ}
 use mathlib.Core.Path.{ap}
 use lib.Bits.{bitOr}
 use native.Mathlib.Omega.{arith}
+use Rattle.gf2.proofs.WordBits.{one-shifted}
 use Rattle.elimination.specs.Rows.{place, clearedBy}
 use Rattle.elimination.proofs.Pivots.{elim-cong}
-use Rattle.elimination.proofs.Place.{place-lt, place-div, one-at}
+use Rattle.elimination.proofs.Place.{place-lt, place-div}
 use Rattle.elimination.proofs.clear_by_row.Statement.{statement}
 use Rattle.elimination.proofs.clear_by_row.Tie as tie
 
@@ -25,7 +26,7 @@ returns : tie.Need-returns
 unfolding clearedBy place
 returns c =
     let x : ℕ = c .before .before .before .args .x in
-    elim-cong (c .before .clear-all .ensures) (ap (bitOr (c .before .before .before .args .s .columns)) (one-at (place x) (place-lt x)))
+    elim-cong (c .before .clear-all .ensures) (ap (bitOr (c .before .before .before .args .s .columns)) (one-shifted 64 (place x) (omega (arith, place-lt x))))
 
 pub clear-by-row-spec : {M : Type 1} → statement M
 clear-by-row-spec = tie.close (tie.spec clear-all-requires cast-t5 shl-t7 returns)

@@ -1,13 +1,11 @@
 -- Turning a bit over is adding its power of two without a carry.
-use mathlib.Core.Path.{_∙_, ap}
-use Prim.Native.Nat.{_^_}
-use native.Mathlib.Nat.{one-mul}
+use mathlib.Core.Path.{ap}
 use native.Mathlib.Omega.{arith}
 use lib.Bits.{bitXor}
-use lib.Pow.{shl-exact}
 use borrow.Author.Needs.{needs}
 use borrow.Author.Tests.{lt-ltb, le-ltb}
 use Rattle.gf2.specs.Words.{toggledAt}
+use Rattle.gf2.proofs.WordBits.{one-shifted}
 use Rattle.gf2.proofs.toggle.Statement.{statement}
 use Rattle.gf2.proofs.toggle.Tie as tie
 
@@ -25,7 +23,7 @@ returns-2 : tie.Need-returns-2
 unfolding toggledAt
 returns-2 c =
     rw (lt-ltb _ _ (c .if1 .left))
-    (ap (bitXor (c .before .args .w)) (shl-exact {a = 1} 1 (c .before .args .k) 32 (omega arith) (omega arith) ∙ one-mul (2 ^ c .before .args .k)))
+    (ap (bitXor (c .before .args .w)) (one-shifted 32 (c .before .args .k) (omega arith)))
 
 pub toggle-spec : {M : Type 1} → statement M
 toggle-spec = tie.close (tie.spec returns cast-result shl-result returns-2)

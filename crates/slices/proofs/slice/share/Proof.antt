@@ -3,8 +3,8 @@ use mathlib.Core.Path.{sym, _∙_, ap}
 use mathlib.Core.Bool.{cond}
 use Prim.Native.Nat.{_-_, _*_, _^_}
 use native.Mathlib.Omega.{arith}
+use Rattle.gf2.proofs.WordBits.{one-shifted}
 use Rattle.slices.specs.Answers.{shareOf}
-use Rattle.slices.proofs.BitTests.{one-shifted}
 use Rattle.slices.proofs.OutcomeTests.{nought-tested, nought-refused}
 use borrow.Author.Needs.{needs}
 use Rattle.slices.proofs.slice.share.Statement.{statement}
@@ -35,7 +35,7 @@ returns-2 : tie.Need-returns-2
 unfolding shareOf
 returns-2 c =
     let a : _ = c .before .before .before .args in
-    one-shifted (2 * a .m - 2 * a .slice .rank) (omega arith)
+    one-shifted 64 (2 * a .m - 2 * a .slice .rank) (omega arith)
     ∙ sym (ap (λ b. cond b 0 (2 ^ (2 * a .m - 2 * a .slice .rank))) (nought-refused (a .slice .inner) (c .before .if1 .left)))
 
 pub share-spec : {M : Type 1} → statement M

@@ -3,7 +3,7 @@ use mathlib.Core.Path.{_∙_, ap}
 use Prim.Native.Nat.{ℕ, _-_}
 use native.Mathlib.Omega.{arith}
 use lib.Dec.{leb}
-use Rattle.slices.proofs.BitTests.{one-shifted}
+use Rattle.gf2.proofs.WordBits.{one-shifted}
 use Rattle.slices.proofs.EntryChecks.{range-refused, range-passed, range-tested}
 use borrow.Author.Needs.{needs}
 use Rattle.slices.proofs.total.in_range.Statement.{statement}
@@ -18,13 +18,13 @@ shl-all c = search needs
 returns-2 : tie.Need-returns-2
 returns-2 c =
     let a : _ = c .before .before .args in
-    let s : _ = one-shifted (a .m) (omega arith) in
+    let s : _ = one-shifted 64 (a .m) (omega arith) in
     range-passed (a .m) (a .from) (a .count) (omega arith) (omega arith)
 
 returns-3 : tie.Need-returns-3
 returns-3 c =
     let a : _ = c .before .before .args in
-    let s : _ = one-shifted (a .m) (omega arith) in
+    let s : _ = one-shifted 64 (a .m) (omega arith) in
     ap (λ (x : ℕ). leb (a .count) (x - a .from)) s ∙ range-tested (a .m) (a .from) (a .count) (omega arith) (omega arith)
 
 pub in-range-spec : {M : Type 1} → statement M
