@@ -1,5 +1,5 @@
 -- A gate is read at the front of a list exactly if it is spelled there.
-use Prim.Native.Nat.{ℕ, _+_}
+use Prim.Native.Nat.{ℕ, _+_, _≤_}
 use mathlib.Core.Path.{_≡_, refl, ap, sym, _∙_}
 use mathlib.Core.Logic.{_⊎_, inl, inr}
 use mathlib.Core.List.{List, [], _∷_, _++_, append-nil}
@@ -169,6 +169,10 @@ gate-stands l g n h = go (gate-or-none l)
         let p : n ≡ length (spelledGate (f .gate)) = cc in
         let d : drop n l ≡ f .rest = ap (λ (m : ℕ). drop m l) p ∙ ap (drop (length (spelledGate (f .gate)))) (f .is) ∙ drop-append-seam (spelledGate (f .gate)) (f .rest) in
         record { gate = f .gate; holds = cc; place = p; is = f .is ∙ ap (λ (x : List ℕ). spelledGate (f .gate) ++ x) (sym d) }
+
+-- A gate that was read ends within the list.
+pub gate-fits : (l : List ℕ) (g : Gate) (n : ℕ) → readGate l ≡ GateRead g n → n ≤ length l
+gate-fits l g n h = let s = gate-stands l g n h in omega (arith, s .place, ap length (s .is), length-append (spelledGate (s .gate)) (drop n l))
 
 -- The part that is handed on is read as the same gate.
 pub gatePart-read : (l : List ℕ) → readGate (gatePart l) ≡ readGate l

@@ -1,4 +1,3 @@
-pub mod Reach
 pub mod Scanning
 pub mod LayerWalk
 pub mod GateSpelling

@@ -16,7 +16,7 @@ use Rattle.lines.specs.Forms.{isAllowed, allAllowed, layerFrom}
 use Rattle.lines.specs.declared.GateAt.the-variants.{Read as GateRead, Missing as NoGate}
 use Rattle.lines.specs.declared.Form.{Form}
 use Rattle.lines.specs.declared.Form.the-variants as Form
-use Rattle.lines.proofs.Reach.{gate-fits}
+use Rattle.lines.proofs.GateSpelling.{gate-fits}
 
 -- What `&line[j..]` holds.
 pub part-all : (l : List ℕ) (j : ℕ) → take (length l - j) (drop j l) ≡ drop j l

@@ -6,7 +6,7 @@ use mathlib.Core.Bool.{Bool, true, false, cond, _&&_}
 use mathlib.Core.List.{List, [], _∷_, _++_}
 use native.Mathlib.Omega.{arith}
 use native.Mathlib.Nat.{add-zero, zero-add}
-use lib.ListN.{length, drop}
+use lib.ListN.{length, drop, length-append, length-drop}
 use lib.Seq.{drop-drop, drop-append-seam}
 use lib.Dec.{leb, eqb}
 use borrow.Author.Tests.{leb-true, le-leb, eqb-true, eqb-false, eq-eqb, ne-eqb}
@@ -78,6 +78,12 @@ module _ (l : List ℕ) (at : ℕ) where
           let p : next ≡ at + length key = cc in
           (p, begins-is key (drop at l) e ∙ ap (λ (a : List ℕ). key ++ a) (drop-drop (length key) at l ∙ ap (λ (n : ℕ). drop n l) (sym p)))
       go false e h = never (cc)
+
+  -- It ends within the line.
+  pub keyword-fits : (key : List ℕ) (next : ℕ) → readKeyword l at key ≡ Ends next → 0 < length key → next ≤ length l
+  keyword-fits key next h p =
+      let s = keyword-stands key next h in
+      omega (arith, s .0, ap length (s .1), length-append key (drop next l), length-drop at l, length-drop next l)
 
 -- ---- numbers
 

@@ -1,16 +1,15 @@
 -- Each reader of specs/Reading at a place of a line, one byte on: what a turn of a scanning loop knows.
 use Prim.Native.Nat.{ℕ, _+_, _-_, _*_, _%_, _≤_, _<_}
-use mathlib.Core.Path.{_≡_, refl, sym}
-use mathlib.Core.List.{List, [], _∷_}
-use mathlib.Core.Bool.{Bool, true, false, cond}
+use mathlib.Core.Path.{_≡_, refl}
+use mathlib.Core.List.{List}
+use mathlib.Core.Bool.{Bool, true, false}
 use native.Mathlib.Nat.{add-zero}
 use native.Mathlib.Numerals.{add-one}
 use native.Mathlib.Omega.{arith}
 use lib.Dec.{eqb}
-use lib.ListN.{length, getD, drop, drop-of-length-le, length-drop}
+use lib.ListN.{length, getD, drop, drop-of-length-le}
 use lib.Seq.{drop-cons}
 use borrow.Author.Tests.{le-leb, lt-leb, eq-eqb, ne-eqb, eqb-true, eqb-false}
-use Rattle.gf2.proofs.Impossible.{never}
 use Rattle.circuit.specs.declared.Colour.the-variants.{Red, Blue, Green}
 use Rattle.text.specs.Reading.{capped, begins, readKeyword, digitsFrom, numberFrom, readNumber, colourFrom, readColour, bitsFrom}
 use Rattle.text.specs.declared.KeywordAt.the-variants.{Ends, Missing as NoKeyword}
@@ -146,31 +145,3 @@ module _ (l : List ℕ) (n v i : ℕ) where
             let ne = eqb-false (getD l i 0) 48 t in
             let e : getD l i 0 ≡ 49 = omega arith in
             rw (drop-cons l i 0 h, e, add-one i)
-
--- ---- how far a keyword reaches
-
-begins-fits : (key l : List ℕ) → begins key l ≡ true → length key ≤ length l
-unfolding begins
-begins-fits [] l h = omega arith
-begins-fits (k ∷ ks) [] h = never (cc)
-begins-fits (k ∷ ks) (x ∷ xs) h = go (eqb x k) h (begins-fits ks xs)
-  where
-    go : (t : Bool) → cond t (begins ks xs) false ≡ true → (begins ks xs ≡ true → length ks ≤ length xs) → length (k ∷ ks) ≤ length (x ∷ xs)
-    go true h again = let r = again h in omega arith
-    go false h again = never (cc)
-
-module _ (l : List ℕ) (at : ℕ) (key : List ℕ) (e : ℕ) (h : readKeyword l at key ≡ Ends e) where
-  -- A keyword that was read stands there.
-  pub keyword-there : (begins key (drop at l) ≡ true) × (e ≡ at + length key)
-  unfolding readKeyword
-  keyword-there = go (begins key (drop at l)) h
-    where
-      go : (t : Bool) → cond t (Ends (at + length key)) NoKeyword ≡ Ends e → (t ≡ true) × (e ≡ at + length key)
-      go true h = let z : at + length key ≡ e = cc in (refl, sym z)
-      go false h = never (cc)
-
-  -- It ends within the line.
-  pub keyword-fits : 0 < length key → e ≤ length l
-  keyword-fits p =
-      let there = keyword-there in
-      omega (arith, begins-fits key (drop at l) (there .0), there .1, length-drop at l)

@@ -5,7 +5,7 @@ use native.Mathlib.Nat.{sub-zero}
 use denote.Ref.{now}
 use lib.ListN.{take}
 use Rattle.lines.specs.Gates.{gateEnd, gatePart}
-use Rattle.lines.proofs.Reach.{gate-fits}
+use Rattle.lines.proofs.GateSpelling.{gate-fits}
 use borrow.Author.Needs.{needs}
 use Rattle.lines.proofs.gates.gate_part.Statement.{statement}
 use Rattle.lines.proofs.gates.gate_part.Tie as tie

@@ -3,7 +3,7 @@ use mathlib.Core.Path.{ap, sym, _∙_}
 use native.Mathlib.Omega.{arith}
 use denote.Ref.{now}
 use Rattle.text.specs.Spelling.{bytes}
-use Rattle.text.proofs.Scanning.{keyword-fits}
+use Rattle.text.proofs.Items.{keyword-fits}
 use Rattle.lines.specs.Gates.{readGate, layerGateAt}
 use Rattle.lines.proofs.Scanning.{part-all, gate-fits-from}
 use borrow.Author.Needs.{needs}
