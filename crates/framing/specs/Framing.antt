@@ -2,7 +2,7 @@
 use mathlib.Core.Bool.{Bool, true, false, cond}
 use mathlib.Core.Path.{_≡_}
 use mathlib.Core.List.{List, [], _∷_, _++_}
-use Prim.Native.Nat.{ℕ, zero, suc, _+_, _-_, min}
+use Prim.Native.Nat.{ℕ, _+_, _-_, min}
 use lib.Dec.{eqb, ltb}
 use lib.ListN.{length, take, drop, replicate}
 use lib.Seq.{paste}
@@ -69,17 +69,3 @@ scanned chunk from p =
 -- The bytes of the line that was read.
 unfoldable pub bytesOf : Pending → List ℕ
 bytesOf p = take (p .len) (p .bytes)
-
--- The lines that scans of a chunk complete, each scan from where the last one left off, and then what is made of the line so far at the
--- chunk's end.
-unfoldable pub linesInChunk : ℕ → List ℕ → ℕ → Pending → (Pending → List (List ℕ)) → List (List ℕ)
-linesInChunk zero chunk from p rest = rest p
-linesInChunk (suc scans) chunk from p rest =
-    cond (scanned chunk from p .complete)
-    (bytesOf (scanned chunk from p .pending) ∷ linesInChunk scans chunk (scanned chunk from p .next) (pendingOf []) rest)
-    (rest (scanned chunk from p .pending))
-
--- The lines of an input that is read in chunks. A chunk of n bytes takes n + 1 scans at most.
-unfoldable pub linesInChunks : List (List ℕ) → Pending → List (List ℕ)
-linesInChunks [] p = cond (eqb (p .len) 0) [] (bytesOf p ∷ [])
-linesInChunks (chunk ∷ chunks) p = linesInChunk (length chunk + 1) chunk 0 p (linesInChunks chunks)

@@ -1,7 +1,14 @@
 // Bracket lines from standard input, answers to standard output. Nothing is kept of the input but the line that is being read, and all
 // answers are written before the program waits for more.
+ghost use mathlib.Core.Bool.{true, false};
+ghost use mathlib.Core.List.{List, [], _∷_, _++_};
 ghost use mathlib.Core.Path.{_≡_};
-ghost use lib.ListN.{length};
+ghost use Prim.Native.Nat.{ℕ, _<_};
+ghost use lib.ListN.{length, replicate};
+ghost use Rattle.engine.specs.Engine.{Engine};
+ghost use Rattle.engine.specs.State.{Holds};
+ghost use Rattle.framing.specs.Framing.{pendingOf};
+ghost use Rattle.session.specs.Session.{ended, laterLines, Progress, withLine, Waits, At, Follows, Turned, Ran, sessionOf};
 use engine::State;
 use framing::Pending;
 use libc::STDIN_FILENO;
@@ -26,17 +33,21 @@ struct Session {
 struct Reading {
     session: Session,
     pending: Pending,
-    goes_on: bool,
+    more: bool,
 }
 
 // "`session` lends 4,096 places."
 fn history_places() -> [u32; 4096]
-    ensures { λ r. ⌜ 4096 ≡ length r ⌝ }
+    ensures { λ r. ⌜ r ≡ replicate 4096 0 ⌝ }
 {
     [0u32; 4096]
 }
 
-fn flush(out: &[u8], waiting: Waiting) -> Waiting {
+// Writes what waits. After a write that failed nothing more is written.
+fn flush(out: &[u8], waiting: Waiting) -> Waiting
+    ensures { λ r. ⌜ r .len ≡ 0 ⌝ }
+    ensures { λ r. ⌜ (waiting .sound ≡ false → r .sound ≡ false) ⌝ }
+{
     let len = waiting.len;
     let sound = waiting.sound;
     if !sound {
@@ -50,7 +61,10 @@ fn flush(out: &[u8], waiting: Waiting) -> Waiting {
 }
 
 // An answer line with its line feed, behind those that wait; where there is no room, these are written first.
-fn say(out: &mut [u8], waiting: Waiting, answer: &[u8]) -> Waiting {
+fn say(out: &mut [u8], waiting: Waiting, answer: &[u8]) -> Waiting
+    ensures { λ r. ⌜ ((said : List ℕ) → length (now (answer .entry)) < length (now (out .entry)) → Waits said (now (out .entry)) waiting →
+        Waits (said ++ ended (now (answer .entry) ∷ [])) (now (out .exit)) r) ⌝ }
+{
     let at = waiting.len;
     let len = framing::put_line(out, at, answer);
     if at < len {
@@ -66,7 +80,10 @@ fn say(out: &mut [u8], waiting: Waiting, answer: &[u8]) -> Waiting {
 }
 
 // The lines of a listing, fetched by number until there is none.
-fn list(state: State, out: &mut [u8], waiting: Waiting) -> Waiting {
+fn list(state: State, out: &mut [u8], waiting: Waiting) -> Waiting
+    ensures { λ r. ⌜ ((e : Engine) (h said : List ℕ) → Holds e state h → 64 < length (now (out .entry)) → Waits said (now (out .entry)) waiting →
+        Waits (said ++ ended (laterLines e)) (now (out .exit)) r) ⌝ }
+{
     let mut answer = [0u8; 64];
     let mut after = waiting;
     let mut number = 1;
@@ -83,7 +100,10 @@ fn list(state: State, out: &mut [u8], waiting: Waiting) -> Waiting {
 }
 
 // A line, its answer and, if that opens a listing, the lines of it. A line of no bytes has no answer.
-fn take_line(session: Session, history: &mut [u32], out: &mut [u8], line: &[u8]) -> Session {
+fn take_line(session: Session, history: &mut [u32], out: &mut [u8], line: &[u8]) -> Session
+    ensures { λ r. ⌜ ((p : Progress) → At p session (now (history .entry)) (now (out .entry)) →
+        At (withLine p (now (line .entry))) r (now (history .exit)) (now (out .exit))) ⌝ }
+{
     let mut answer = [0u8; 64];
     let reply = engine::line(session.state, history, line, &mut answer);
     let state = reply.state;
@@ -105,19 +125,21 @@ fn take_line(session: Session, history: &mut [u32], out: &mut [u8], line: &[u8])
     }
 }
 
-fn take_pending(
-    session: Session,
-    history: &mut [u32],
-    out: &mut [u8],
-    pending: Pending,
-) -> Session {
+fn take_pending(session: Session, history: &mut [u32], out: &mut [u8], pending: Pending) -> Session
+    ensures { λ r. ⌜ ((p : Progress) (line : List ℕ) → At p session (now (history .entry)) (now (out .entry)) → pending ≡ pendingOf line →
+        At (withLine p line) r (now (history .exit)) (now (out .exit))) ⌝ }
+{
     let bytes = pending.bytes;
     let len = pending.len;
     take_line(session, history, out, framing::front(&bytes, len))
 }
 
 // The lines that a chunk of the input completes.
-fn take_chunk(reading: Reading, history: &mut [u32], out: &mut [u8], chunk: &[u8]) -> Reading {
+fn take_chunk(reading: Reading, history: &mut [u32], out: &mut [u8], chunk: &[u8]) -> Reading
+    ensures { λ r. ⌜ ((input : List ℕ) → Follows input reading (now (history .entry)) (now (out .entry)) →
+        Follows (input ++ now (chunk .entry)) r (now (history .exit)) (now (out .exit))) ⌝ }
+    ensures { λ r. ⌜ r .more ≡ true ⌝ }
+{
     let mut session = reading.session;
     let mut pending = reading.pending;
     let mut from = 0;
@@ -128,7 +150,7 @@ fn take_chunk(reading: Reading, history: &mut [u32], out: &mut [u8], chunk: &[u8
             return Reading {
                 session,
                 pending,
-                goes_on: true,
+                more: true,
             };
         }
         session = take_pending(session, history, out, pending);
@@ -138,20 +160,18 @@ fn take_chunk(reading: Reading, history: &mut [u32], out: &mut [u8], chunk: &[u8
 }
 
 // The end of the input: "a last line without one counts too".
-fn take_last(reading: Reading, history: &mut [u32], out: &mut [u8]) -> Reading {
-    let pending = reading.pending;
-    let last = take_pending(reading.session, history, out, pending);
-    let state = last.state;
-    let waiting = flush(out, last.waiting);
-    Reading {
-        session: Session { state, waiting },
-        pending,
-        goes_on: false,
-    }
+fn take_last(reading: Reading, history: &mut [u32], out: &mut [u8]) -> Session
+    ensures { λ r. ⌜ ((input : List ℕ) → Follows input reading (now (history .entry)) (now (out .entry)) →
+        At (sessionOf input) r (now (history .exit)) (now (out .exit))) ⌝ }
+{
+    take_pending(reading.session, history, out, reading.pending)
 }
 
 // Writes what waits, reads once, and takes what was read.
-fn turn(reading: Reading, history: &mut [u32], out: &mut [u8], chunk: &mut [u8]) -> Reading {
+fn turn(reading: Reading, history: &mut [u32], out: &mut [u8], chunk: &mut [u8]) -> Reading
+    ensures { λ r. ⌜ ((input : List ℕ) → Follows input reading (now (history .entry)) (now (out .entry)) →
+        Turned input r (now (history .exit)) (now (out .exit)) (now (chunk .exit))) ⌝ }
+{
     let session = reading.session;
     let pending = reading.pending;
     let state = session.state;
@@ -160,7 +180,7 @@ fn turn(reading: Reading, history: &mut [u32], out: &mut [u8], chunk: &mut [u8])
     let flushed = Reading {
         session: Session { state, waiting },
         pending,
-        goes_on: false,
+        more: false,
     };
     if !sound {
         return flushed;
@@ -168,13 +188,19 @@ fn turn(reading: Reading, history: &mut [u32], out: &mut [u8], chunk: &mut [u8])
     let got = libc::read(STDIN_FILENO, chunk);
     let count = io::count(got, chunk);
     if count == 0 {
-        return take_last(flushed, history, out);
+        return Reading {
+            session: take_last(flushed, history, out),
+            pending,
+            more: false,
+        };
     }
     take_chunk(flushed, history, out, framing::front(chunk, count))
 }
 
 // A proved loop has to end, and nothing says that the input does: the turns are counted down from a number that no run uses up.
-fn run(history: &mut [u32], out: &mut [u8], chunk: &mut [u8]) {
+fn run(history: &mut [u32], out: &mut [u8], chunk: &mut [u8]) -> Reading
+    ensures { λ r. ⌜ (now (history .entry) ≡ replicate 4096 0 → length (now (out .entry)) ≡ 4096 → Ran r (now (history .exit)) (now (out .exit))) ⌝ }
+{
     let mut reading = Reading {
         session: Session {
             state: engine::fresh(),
@@ -184,18 +210,21 @@ fn run(history: &mut [u32], out: &mut [u8], chunk: &mut [u8]) {
             },
         },
         pending: framing::empty(),
-        goes_on: true,
+        more: true,
     };
     let mut turns = u64::MAX;
-    while turns > 0 && reading.goes_on {
+    while turns > 0 && reading.more {
         reading = turn(reading, history, out, chunk);
         turns -= 1;
     }
+    reading
 }
 
 fn main() {
     let mut history = history_places();
     let mut out = io::buffer();
     let mut chunk = io::large_buffer();
-    run(&mut history, &mut out, &mut chunk);
+    let last = run(&mut history, &mut out, &mut chunk);
+    let session = last.session;
+    flush(&out, session.waiting);
 }

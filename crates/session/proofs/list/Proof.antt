@@ -1,19 +1,23 @@
--- The buffers keep their lengths. The measure is how many numbers are left.
-use Prim.Native.Nat.{_-_}
-use mathlib.Core.Path.{_≡_}
+-- The lines are said as they are fetched, and there are no more of them than terms. The measure is how many numbers are left.
+use Prim.Native.Nat.{suc, _+_, _-_, _≤_}
+use native.Mathlib.Omega.{arith}
+use mathlib.Core.Path.{_≡_, refl}
 use lib.ListN.{length}
+use Rattle.session.proofs.LaterLines.{later-few}
+use Rattle.session.proofs.ListingSaid.{Listed, none-listed, all-listed, past-listed, one-listed}
 use borrow.Author.Needs.{needs}
 use Rattle.session.proofs.list.Statement.{statement}
 use Rattle.session.proofs.list.Tie as tie
 
 abbrev Inv-loop : tie.InvT-loop
-Inv-loop state out₀ answer₀ after₀ number₀ out answer after number = (length out ≡ length out₀) × (length answer ≡ 64)
+Inv-loop state out₀ answer₀ after₀ number₀ out answer after number =
+    (length out ≡ length out₀) × (length answer ≡ 64) × (1 ≤ number) × Listed state out₀ after₀ (number - 1) out after
 
 abbrev μ-loop : tie.MeasureT-loop
 μ-loop state out₀ answer₀ after₀ number₀ out answer after number = 4865 - number
 
 loop-holds : tie.Need-loop-holds Inv-loop μ-loop
-loop-holds c = search needs
+loop-holds c = (refl, search needs, omega arith, none-listed _ _ _)
 
 slice-aggregate-fetch : tie.Need-slice-aggregate-fetch Inv-loop μ-loop
 slice-aggregate-fetch c = search needs
@@ -25,7 +29,11 @@ same-length : tie.Need-same-length Inv-loop μ-loop
 same-length c = search needs
 
 returns : tie.Need-returns Inv-loop μ-loop
-returns c = search needs
+returns c = λ e h said held big w.
+    let loop = c .before .before .before .before .before .loop in
+    let number : loop .number ≡ suc (loop .number - 1) = omega (arith, loop .inv .2) in
+    all-listed _ _ _ (loop .number - 1) (loop .inv .3) e h said held big w
+    (past-listed _ (loop .number - 1) (loop .number) number (c .before .before .fetch .ensures) (loop .inv .1) (c .if1 .taken) e h held)
 
 slice-aggregate-front : tie.Need-slice-aggregate-front Inv-loop μ-loop
 slice-aggregate-front c = search needs
@@ -43,13 +51,25 @@ loop-less : tie.Need-loop-less Inv-loop μ-loop
 loop-less c = search needs
 
 loop-again : tie.Need-loop-again Inv-loop μ-loop
-loop-again c = search needs
+loop-again c =
+    let loop = c .before .before .before .before .before .before .before .before .before .before .before .loop in
+    let number : loop .number ≡ suc (loop .number - 1) = omega (arith, loop .inv .2) in
+    let next : loop .number + 1 - 1 ≡ loop .number = omega arith in (
+      search needs,
+      search needs,
+      omega arith,
+      rw next
+          (one-listed _ _ _ (loop .number - 1) (loop .number) (loop .inv .3) number
+          (c .before .before .before .before .before .before .before .before .fetch .ensures) (loop .inv .1) (search needs) (loop .inv .0)
+          (c .before .before .before .front .ensures) (c .before .before .say .ensures)
+          (c .before .before .before .before .before .before .if1 .left)),
+    )
 
 same-length-2 : tie.Need-same-length-2 Inv-loop μ-loop
 same-length-2 c = search needs
 
 returns-2 : tie.Need-returns-2 Inv-loop μ-loop
-returns-2 c = search needs
+returns-2 c = λ e h said held big w. all-listed _ _ _ (c .before .loop .number - 1) (c .before .loop .inv .3) e h said held big w (omega (arith, later-few e, c .loop-test .left))
 
 pub list-spec : {M : Type 1} → statement M
 list-spec =

@@ -1,22 +1,26 @@
--- The buffers keep their lengths. The measure is what is left of the chunk: a scan that completes a line goes on behind it.
-use Prim.Native.Nat.{_-_}
-use mathlib.Core.Path.{_≡_}
+-- Each scan that completes a line takes it; what is left of the chunk grows shorter, since a scan that completes a line goes on behind it.
+use Prim.Native.Nat.{ℕ, _-_}
+use mathlib.Core.Path.{_≡_, refl}
+use mathlib.Core.List.{List}
 use native.Mathlib.Omega.{arith}
 use lib.ListN.{length}
-use borrow.Author.Tests.{not-false}
+use borrow.Author.Tests.{not-true, not-false}
 use Rattle.framing.proofs.Scans.{scan-goes-on}
+use Rattle.session.proofs.ChunkTaken.{Amid, chunk-begun, chunk-ended, line-ended}
 use borrow.Author.Needs.{needs}
 use Rattle.session.proofs.take_chunk.Statement.{statement}
 use Rattle.session.proofs.take_chunk.Tie as tie
 
 abbrev Inv-loop : tie.InvT-loop
-Inv-loop history₀ out₀ chunk session₀ pending₀ from₀ history out session pending from = (length history ≡ length history₀) × (length out ≡ length out₀)
+Inv-loop history₀ out₀ chunk session₀ pending₀ from₀ history out session pending from =
+    (length history ≡ length history₀) × (length out ≡ length out₀)
+    × ((input : List ℕ) → Amid input chunk from₀ session₀ pending₀ history₀ out₀ → Amid input chunk from session pending history out)
 
 abbrev μ-loop : tie.MeasureT-loop
 μ-loop history₀ out₀ chunk session₀ pending₀ from₀ history out session pending from = length chunk - from
 
 loop-holds : tie.Need-loop-holds Inv-loop μ-loop
-loop-holds c = search needs
+loop-holds c = (refl, refl, λ input a. a)
 
 scan-requires : tie.Need-scan-requires Inv-loop μ-loop
 scan-requires c κs = search needs
@@ -28,7 +32,14 @@ same-length-2 : tie.Need-same-length-2 Inv-loop μ-loop
 same-length-2 c = search needs
 
 returns : tie.Need-returns Inv-loop μ-loop
-returns c = search needs
+returns c =
+    let loop = c .before .before .before .before .loop in
+    let args = c .before .before .before .before .before .before .before .before .before .before .args in (
+      λ input f.
+          chunk-ended input (args .chunk .now) (loop .from) (loop .session) (loop .pending) (loop .history) (loop .out) _ (c .before .before .before .scan .ensures)
+          (loop .inv .2 input (chunk-begun input (args .chunk .now) (args .reading) _ _ f)) (not-true _ (c .if1 .taken)),
+      refl,
+    )
 
 take-pending-requires : tie.Need-take-pending-requires Inv-loop μ-loop
 take-pending-requires c κs = search needs
@@ -38,15 +49,21 @@ empty-requires c κs = search needs
 
 loop-less : tie.Need-loop-less Inv-loop μ-loop
 loop-less c =
-    let scanned = c .before .before .before .before .before .before .before .before .before .before .before in
-    let complete = not-false (scanned .scan .result .complete) (c .before .before .before .before .before .before .before .before .if1 .left) in
-    let start = scanned .before .before .before .before .before .before .before in
-    let at = scanned .before .loop in
-    let on = scan-goes-on (start .args .chunk .now) (at .from) (at .pending) (scanned .scan .ensures) complete in
+    let scan = c .before .before .before .before .before .before .before .before .before .before .before .scan in
+    let loop = c .before .before .before .before .before .before .before .before .before .before .before .before .loop in
+    let on = scan-goes-on (c .before .before .before .before .before .before .before .before .before .before .before .before .before .before .before .before .before .before .args .chunk .now) (loop .from) (loop .pending) (scan .ensures) (not-false _ (c .before .before .before .before .before .before .before .before .if1 .left)) in
     omega (arith, on .0, on .1)
 
 loop-again : tie.Need-loop-again Inv-loop μ-loop
-loop-again c = search needs
+loop-again c =
+    let scan = c .before .before .before .before .before .before .before .before .before .before .before .scan in
+    let loop = c .before .before .before .before .before .before .before .before .before .before .before .before .loop in (
+      search needs,
+      search needs,
+      λ input a.
+          line-ended input (c .before .before .before .before .before .before .before .before .before .before .before .before .before .before .before .before .before .before .args .chunk .now) (loop .from) (loop .session) (loop .pending) (loop .history) (loop .out) (scan .result)
+          (scan .ensures) (loop .inv .2 input a) (not-false _ (c .before .before .before .before .before .before .before .before .if1 .left)) (c .empty .ensures) (c .before .before .before .before .before .take-pending .ensures),
+    )
 
 pub take-chunk-spec : {M : Type 1} → statement M
 take-chunk-spec =

@@ -1,0 +1,111 @@
+-- The lines that a chunk of the input completes, each taken when its line feed is met, and the last line at the input's end.
+use Prim.Native.Nat.{ℕ, _+_}
+use mathlib.Core.Path.{_≡_, refl, sym, ap, _∙_}
+use mathlib.Core.Bool.{true, false, cond}
+use mathlib.Core.List.{List, [], _∷_, _++_, append-nil, append-assoc}
+use lib.ListN.{length, drop}
+use native.Mathlib.Omega.{arith}
+use lib.Dec.{eqb}
+use lib.Seq.{drop-drop}
+use borrow.Author.Tests.{ne-eqb}
+use Rattle.engine.specs.Calls.{response, skipped}
+use Rattle.framing.specs.declared.Pending.{Pending}
+use Rattle.framing.specs.declared.Frame.{Frame}
+use Rattle.framing.specs.Framing.{upToFeed, hasFeed, linesAfter, linesOf, pendingOf, scanned}
+use Rattle.framing.proofs.Clipped.{pending-joined}
+use Rattle.framing.proofs.LinesCut.{first-line, no-line-yet}
+use Rattle.session.specs.declared.Session.{Session}
+use Rattle.session.specs.declared.Reading.{Reading}
+use Rattle.session.specs.Session.{ended, Progress, begun, answerTo, withResponse, withLine, withLines, sessionOf, At, Follows}
+
+-- ---- lines in turn
+
+lines-then : (p : Progress) (ls : List (List ℕ)) (line : List ℕ) → withLines p (ls ++ (line ∷ [])) ≡ withLine (withLines p ls) line
+unfolding withLines
+lines-then p [] line = refl
+lines-then p (l ∷ ls) line = lines-then (withLine p l) ls line
+
+-- A line of no bytes changes nothing.
+empty-taken : (p : Progress) → withLine p [] ≡ p
+unfolding withLine withResponse answerTo response skipped ended
+empty-taken p = rw append-nil
+
+-- ---- a chunk
+
+-- Between two scans: the lines ended so far were taken, and the scans go on in the chunk.
+pub record Amid (input chunk : List ℕ) (from : ℕ) (s : Session) (pending : Pending) (history out : List ℕ) : Type 0 where
+  pub lines : List (List ℕ)
+  pub begun-line : List ℕ
+  pub cut : (rest : List ℕ) → linesOf (input ++ (chunk ++ rest)) ≡ lines ++ linesAfter begun-line (drop from chunk ++ rest)
+  pub kept : pending ≡ pendingOf begun-line
+  pub progress : At (withLines begun lines) s history out
+
+pub chunk-begun : (input chunk : List ℕ) (r : Reading) (history out : List ℕ) → Follows input r history out
+    → Amid input chunk 0 (r .session) (r .pending) history out
+chunk-begun input chunk r history out f =
+    record {
+      lines = f .lines;
+      begun-line = f .begun-line;
+      cut = λ rest. f .cut (chunk ++ rest);
+      kept = f .kept;
+      progress = f .progress;
+    }
+
+module _ (input chunk : List ℕ) (from : ℕ) (s : Session) (pending : Pending) (history out : List ℕ) (f : Frame) (is : f ≡ scanned chunk from pending)
+    (a : Amid input chunk from s pending history out) where
+  -- The bytes up to the next line feed, or up to the chunk's end.
+  abbrev passed : List ℕ
+  passed = upToFeed (drop from chunk)
+
+  unfoldable lineNow : List ℕ
+  lineNow = a .begun-line ++ passed
+
+  line-kept : f .pending ≡ pendingOf lineNow
+  unfolding scanned lineNow
+  line-kept = rw (is, a .kept) (pending-joined (a .begun-line) passed)
+
+  pub chunk-ended : f .complete ≡ false → Follows (input ++ chunk) (record { session = s; pending = f .pending; more = true }) history out
+  unfolding scanned lineNow
+  chunk-ended none =
+      let feedless : hasFeed (drop from chunk) ≡ false = rw is at none in
+      record {
+        lines = a .lines;
+        begun-line = lineNow;
+        cut = λ rest.
+            ap linesOf (append-assoc input chunk rest) ∙ a .cut rest
+            ∙ ap (λ (ls : List (List ℕ)). a .lines ++ ls) (no-line-yet (a .begun-line) (drop from chunk) rest feedless);
+        kept = line-kept;
+        progress = a .progress;
+      }
+
+  pub line-ended : {s' : Session} {history' out' : List ℕ} {empty : Pending} → f .complete ≡ true → empty ≡ pendingOf [] →
+      ((p : Progress) (line : List ℕ) → At p s history out → f .pending ≡ pendingOf line → At (withLine p line) s' history' out') →
+      Amid input chunk (f .next) s' empty history' out'
+  unfolding scanned lineNow
+  line-ended {s'} {history'} {out'} some none taken =
+      let feed : hasFeed (drop from chunk) ≡ true = rw is at some in
+      let next : f .next ≡ from + (length passed + 1) = rw (is, feed) in
+      record {
+        lines = a .lines ++ (lineNow ∷ []);
+        begun-line = [];
+        cut = λ rest.
+            rw (next, ← drop-drop (length passed + 1) from chunk, append-assoc (a .lines) (lineNow ∷ []) _)
+            (a .cut rest ∙ ap (λ (ls : List (List ℕ)). a .lines ++ ls) (first-line (a .begun-line) (drop from chunk) rest feed));
+        kept = none;
+        progress = rw (lines-then begun (a .lines) lineNow) (taken (withLines begun (a .lines)) lineNow (a .progress) line-kept);
+      }
+
+-- ---- the end of the input
+
+-- "a last line without one counts too"
+pub input-ended : (input : List ℕ) (r : Reading) {s : Session} (history out : List ℕ) {history' out' : List ℕ} → Follows input r history out →
+    ((p : Progress) (line : List ℕ) → At p (r .session) history out → r .pending ≡ pendingOf line → At (withLine p line) s history' out') →
+    At (sessionOf input) s history' out'
+unfolding sessionOf linesAfter
+input-ended input r {s} history out {history'} {out'} f taken =
+    rw (ap linesOf (sym (append-nil input)) ∙ f .cut []) (go (f .begun-line) (f .kept))
+  where
+    go : (line : List ℕ) → r .pending ≡ pendingOf line → At (withLines begun (f .lines ++ cond (eqb (length line) 0) [] (line ∷ []))) s history' out'
+    go [] kept = rw append-nil (rw (empty-taken (withLines begun (f .lines))) at (taken (withLines begun (f .lines)) [] (f .progress) kept))
+    go (x ∷ xs) kept =
+        rw (ne-eqb (length (x ∷ xs)) 0 (λ z. omega arith), lines-then begun (f .lines) (x ∷ xs)) (taken (withLines begun (f .lines)) (x ∷ xs) (f .progress) kept)

@@ -1,0 +1,116 @@
+-- The later lines of an answer are those that fetches give by number from 1 on, and they are at most as many as there are terms.
+use Prim.Native.Nat.{ℕ, zero, suc, _*_, _≤_, _<_}
+use native.Mathlib.Omega.{arith}
+use mathlib.Core.Path.{_≡_, refl, ap, _∙_}
+use mathlib.Core.Bool.{Bool, true, false, cond}
+use mathlib.Core.List.{List, [], _∷_, _++_, map}
+use lib.ListN.{length, getD, length-append, length-map}
+use Rattle.circuit.specs.declared.Colour.{Colour}
+use Rattle.circuit.specs.declared.Colour.the-variants.{Red, Blue, Green}
+use Rattle.circuit.specs.declared.Gate.{Gate}
+use Rattle.circuit.specs.declared.Gate.the-variants.{Ccz, Cz, Cnot}
+use Rattle.circuit.specs.Polynomial.{Term, Polynomial, polynomial}
+use Rattle.circuit.specs.Listing.{overPositions, triples, pairsBeside, everyTerm, among, listing, gatesOf as gatesIn, entryOf}
+use Rattle.text.specs.Spelling.{spelledGate}
+use Rattle.answers.specs.Answers.{bytesOf}
+use Rattle.engine.specs.Engine.{Engine}
+use Rattle.engine.specs.Response.{gatesOf}
+use Rattle.engine.specs.Calls.{entryBytes, lineNumbered, laterLine, fetchedBytes}
+use Rattle.session.specs.Session.{laterLines}
+
+-- ---- by number
+
+entry-line : (hs : List Term) (n : ℕ) → entryBytes (entryOf hs n) ≡ getD (map spelledGate (gatesIn hs)) n []
+unfolding entryBytes entryOf gatesIn bytesOf
+entry-line [] n = refl
+entry-line (h ∷ hs) zero = refl
+entry-line (h ∷ hs) (suc n) = entry-line hs n
+
+pub line-fetched : (e : Engine) (n : ℕ) → fetchedBytes e (suc n) 64 ≡ getD (laterLines e) n []
+unfolding fetchedBytes laterLine lineNumbered laterLines
+line-fetched e n = go (e .listed)
+  where
+    terms : List Term
+    terms = listing 16 (polynomial (gatesOf (e .loaded)))
+
+    go : (b : Bool) → cond b (entryBytes (entryOf terms n)) [] ≡ getD (cond b (map spelledGate (gatesIn terms)) []) n []
+    go true = entry-line terms n
+    go false = refl
+
+-- ---- none of them is empty
+
+pub spelled-some : (g : Gate) → 1 ≤ length (spelledGate g)
+unfolding spelledGate
+spelled-some (Ccz i j k) = omega arith
+spelled-some (Cz p q) = omega arith
+spelled-some (Cnot C c t) = omega arith
+
+some-spelled : (gs : List Gate) (n : ℕ) → n < length (map spelledGate gs) → 1 ≤ length (getD (map spelledGate gs) n [])
+some-spelled [] n h = absurd (omega arith)
+some-spelled (g ∷ gs) zero h = spelled-some g
+some-spelled (g ∷ gs) (suc n) h = some-spelled gs n (omega arith)
+
+pub later-some : (e : Engine) (n : ℕ) → n < length (laterLines e) → 1 ≤ length (getD (laterLines e) n [])
+unfolding laterLines
+later-some e n = go (e .listed)
+  where
+    gates : List Gate
+    gates = gatesIn (listing 16 (polynomial (gatesOf (e .loaded))))
+
+    go : (b : Bool) → n < length (cond b (map spelledGate gates) []) → 1 ≤ length (getD (cond b (map spelledGate gates) []) n [])
+    go true h = some-spelled gates n h
+    go false h = absurd (omega arith)
+
+-- ---- how many there are
+
+count-over : (m k : ℕ) (f : ℕ → List Term) → ((i : ℕ) → length (f i) ≡ k) → length (overPositions m f) ≡ m * k
+unfolding overPositions
+count-over zero k f h = omega arith
+count-over (suc m) k f h = length-append (overPositions m f) (f (suc m)) ∙ omega (arith, count-over m k f h, h (suc m))
+
+count-pairs : (C : Colour) (m : ℕ) → length (pairsBeside C m) ≡ m * (m * 1)
+unfolding pairsBeside
+count-pairs C m = count-over m (m * 1) _ (λ i. count-over m 1 _ (λ j. refl))
+
+count-triples : (m : ℕ) → length (triples m) ≡ m * (m * (m * 1))
+unfolding triples
+count-triples m = count-over m (m * (m * 1)) _ (λ i. count-over m (m * 1) _ (λ j. count-over m 1 _ (λ k. refl)))
+
+count-every : length (everyTerm 16) ≡ 4864
+unfolding everyTerm
+count-every =
+    length-append (triples 16) _
+    ∙ omega (
+      arith,
+      length-append (pairsBeside Green 16) (pairsBeside Blue 16 ++ pairsBeside Red 16),
+      length-append (pairsBeside Blue 16) (pairsBeside Red 16),
+      count-triples 16,
+      count-pairs Red 16,
+      count-pairs Blue 16,
+      count-pairs Green 16,
+    )
+
+among-few : (f : Polynomial) (hs : List Term) → length (among f hs) ≤ length hs
+unfolding among
+among-few f [] = omega arith
+among-few f (h ∷ hs) = go (f h) (among-few f hs)
+  where
+    go : (b : Bool) → length (among f hs) ≤ length hs → length (cond b (h ∷ among f hs) (among f hs)) ≤ suc (length hs)
+    go true few = omega arith
+    go false few = omega arith
+
+gates-same : (hs : List Term) → length (gatesIn hs) ≡ length hs
+unfolding gatesIn
+gates-same [] = refl
+gates-same (h ∷ hs) = ap suc (gates-same hs)
+
+pub later-few : (e : Engine) → length (laterLines e) ≤ 4864
+unfolding laterLines listing
+later-few e = go (e .listed)
+  where
+    terms : List Term
+    terms = listing 16 (polynomial (gatesOf (e .loaded)))
+
+    go : (b : Bool) → length (cond b (map spelledGate (gatesIn terms)) []) ≤ 4864
+    go true = omega (arith, length-map (gatesIn terms) spelledGate, gates-same terms, among-few (polynomial (gatesOf (e .loaded))) (everyTerm 16), count-every)
+    go false = omega arith

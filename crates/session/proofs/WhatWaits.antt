@@ -1,0 +1,67 @@
+-- What waits in the output buffer: all of it is written, or a line is put behind it.
+use Prim.Native.Nat.{ℕ, _+_, _-_, _≤_, _<_}
+use native.Mathlib.Omega.{arith}
+use mathlib.Core.Path.{_≡_, refl, sym, ap, _∙_}
+use mathlib.Core.Bool.{Bool, true, false}
+use mathlib.Core.List.{List, [], _∷_, _++_, append-nil, append-assoc}
+use lib.ListN.{length, take, length-append}
+use lib.Seq.{take-paste, length-paste, take-length}
+use borrow.Author.Tests.{ltb-true, lt-ltb}
+use Rattle.framing.specs.Framing.{fitting, placed, lineFits, LinePut}
+use Rattle.framing.proofs.Places.{fits-whole}
+use Rattle.session.specs.declared.Waiting.{Waiting}
+use Rattle.session.specs.Session.{ended, Waits}
+
+pub ended-append : (a b : List (List ℕ)) → ended (a ++ b) ≡ ended a ++ ended b
+unfolding ended
+ended-append [] b = refl
+ended-append (l ∷ ls) b = rw (ended-append ls b) (sym (append-assoc l (10 ∷ ended ls) (ended b)))
+
+-- Nothing waits once it is written.
+pub waits-nothing : {said out : List ℕ} {w : Waiting} (v : Waiting) → Waits said out w → v .len ≡ 0 → Waits said out v
+waits-nothing {said = said} v w z = record { written = said; fits = omega (arith, z); is = rw (z, append-nil) }
+
+module _ {said out : List ℕ} {w : Waiting} (h : Waits said out w) (line : List ℕ) where
+  placed-waits : {b : Bool} → w .len + (length line + 1) ≤ length out
+      → Waits (said ++ ended (line ∷ [])) (placed out (w .len) (line ++ (10 ∷ []))) (record { len = w .len + (length line + 1); sound = b })
+  unfolding placed ended
+  placed-waits room =
+      let part : List ℕ = line ++ (10 ∷ []) in
+      let size : length part ≡ length line + 1 = length-append line (10 ∷ []) in
+      let whole : fitting out (w .len) part ≡ length line + 1 = fits-whole out (w .len) part (omega arith) ∙ size in
+      let all : take (length line + 1) part ≡ part = ap (λ (n : ℕ). take n part) (sym size) ∙ take-length part in
+      record {
+        written = h .written;
+        fits = rw whole (omega (arith, length-paste out (w .len) part (length line + 1) room (omega arith)));
+        is =
+            rw (whole, take-paste out (w .len) part (length line + 1) (h .fits) (omega arith), all)
+            (sym (append-assoc (h .written) (take (w .len) out) part) ∙ ap (λ (l : List ℕ). l ++ part) (h .is));
+      }
+
+  module _ {out' : List ℕ} {place : ℕ} (p : LinePut out (w .len) line place out') {b : Bool} where
+    -- A line that fits waits behind what waited.
+    pub fitting-waits : length line < length out - w .len → Waits (said ++ ended (line ∷ [])) out' (record { len = place; sound = b })
+    unfolding lineFits
+    fitting-waits less =
+        let fits = lt-ltb (length line) (length out - w .len) less in
+        rw (rw fits at (p .stands), rw fits at (p .counted)) (placed-waits (omega arith))
+
+    put-by : (t : Bool) → lineFits out (w .len) line ≡ t → w .len < place → Waits (said ++ ended (line ∷ [])) out' (record { len = place; sound = b })
+    unfolding lineFits
+    put-by true f less = fitting-waits (ltb-true (length line) (length out - w .len) f)
+    put-by false f less = absurd (omega (arith, rw f at (p .counted)))
+
+    -- The place moved: the line fitted.
+    pub line-waits : w .len < place → Waits (said ++ ended (line ∷ [])) out' (record { len = place; sound = b })
+    line-waits = put-by (lineFits out (w .len) line) refl
+
+  left-by : {out' : List ℕ} {place : ℕ} → LinePut out (w .len) line place out' → (t : Bool) → lineFits out (w .len) line ≡ t → place ≤ w .len → out' ≡ out
+  left-by p true f h = absurd (omega (arith, rw f at (p .counted)))
+  left-by p false f h = rw f at (p .stands)
+
+-- The place did not move: there was no room. What waited is written, and the line is the first that waits.
+pub first-waits : {said out out' out'' line : List ℕ} {at place : ℕ} {w : Waiting} {b : Bool} → Waits said out w → LinePut out (w .len) line at out'
+    → at ≤ w .len → LinePut out' 0 line place out'' → length line < length out → Waits (said ++ ended (line ∷ [])) out'' (record { len = place; sound = b })
+first-waits {out = out} {line = line} {w = w} {b = b} h p stays again less =
+    let same = left-by h line p (lineFits out (w .len) line) refl stays in
+    fitting-waits (waits-nothing (record { len = 0; sound = b }) h refl) line (rw same at again) (omega arith)

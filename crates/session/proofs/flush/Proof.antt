@@ -1,0 +1,23 @@
+-- After a write that failed there is no further write.
+use mathlib.Core.Path.{_≡_, refl, sym, _∙_}
+use Prim.Native.Nat.{ℕ}
+use native.Mathlib.Omega.{arith}
+use borrow.Author.Tests.{not-false}
+use borrow.Author.Needs.{needs}
+use Rattle.session.proofs.flush.Statement.{statement}
+use Rattle.session.proofs.flush.Tie as tie
+
+returns : tie.Need-returns
+returns c = search needs
+
+front-requires : tie.Need-front-requires
+front-requires c κs = search needs
+
+write-all-requires : tie.Need-write-all-requires
+write-all-requires c κs = search needs
+
+returns-2 : tie.Need-returns-2
+returns-2 c = (refl, λ f. let e = sym f ∙ not-false _ (c .before .before .if1 .left) in let z : _≡_ {A = ℕ} 0 1 = cc in absurd (omega arith))
+
+pub flush-spec : {M : Type 1} → statement M
+flush-spec = tie.close (tie.spec returns front-requires write-all-requires returns-2)

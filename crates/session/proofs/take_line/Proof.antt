@@ -1,0 +1,70 @@
+-- The engine takes the line; its answer is said, and the lines of a listing after it.
+use Rattle.session.proofs.LineTaken.{line-skipped, line-said, line-listed}
+use borrow.Author.Needs.{needs}
+use Rattle.session.proofs.take_line.Statement.{statement}
+use Rattle.session.proofs.take_line.Tie as tie
+
+slice-aggregate-line : tie.Need-slice-aggregate-line
+slice-aggregate-line c = search needs
+
+line-requires : tie.Need-line-requires
+line-requires c κs = search needs
+
+same-length : tie.Need-same-length
+same-length c = search needs
+
+returns : tie.Need-returns
+returns c = λ p at. line-skipped p _ _ _ _ at (c .before .before .before .before .before .before .line .ensures) (search needs) (search needs) (c .if1 .taken)
+
+slice-aggregate-front : tie.Need-slice-aggregate-front
+slice-aggregate-front c = search needs
+
+front-requires : tie.Need-front-requires
+front-requires c κs = search needs
+
+say-requires : tie.Need-say-requires
+say-requires c κs = search needs
+
+list-requires : tie.Need-list-requires
+list-requires c κs = search needs
+
+same-length-2 : tie.Need-same-length-2
+same-length-2 c = search needs
+
+same-length-3 : tie.Need-same-length-3
+same-length-3 c = search needs
+
+returns-2 : tie.Need-returns-2
+returns-2 c = λ p at.
+    line-listed p _ _ _ _ at (c .before .before .before .before .before .before .before .before .before .before .before .before .before .before .before .before .before .line .ensures) (search needs) (search needs) (c .before .before .before .before .before .before .before .before .before .before .before .if1 .left) (c .before .before .before .before .before .before .before .say .ensures)
+    (c .before .before .before .before .before .before .before .before .front .ensures) (search needs) (search needs) (c .before .before .list .ensures)
+
+same-length-4 : tie.Need-same-length-4
+same-length-4 c = search needs
+
+same-length-5 : tie.Need-same-length-5
+same-length-5 c = search needs
+
+returns-3 : tie.Need-returns-3
+returns-3 c = λ p at.
+    line-said p _ _ _ _ at (c .before .before .before .before .before .before .before .before .before .before .before .before .before .line .ensures) (search needs) (search needs) (c .before .before .before .before .before .before .before .if1 .left) (c .before .before .before .say .ensures)
+    (c .before .before .before .before .front .ensures) (c .if2 .left) (search needs)
+
+pub take-line-spec : {M : Type 1} → statement M
+take-line-spec =
+    tie.close
+    (tie.spec
+    slice-aggregate-line
+    line-requires
+    same-length
+    returns
+    slice-aggregate-front
+    front-requires
+    say-requires
+    list-requires
+    same-length-2
+    same-length-3
+    returns-2
+    same-length-4
+    same-length-5
+    returns-3)
