@@ -17,3 +17,4 @@ pub mod TurnRefused
 pub mod TurnAnswers
 pub mod CallLaws
 pub mod TermsListed
+pub mod TakenBack
