@@ -21,7 +21,8 @@ use lines::GateAt;
 
 // One gate at the end of the circuit, and its code in the history.
 fn take_gate(state: State, history: &mut [u32], g: Gate) -> State
-    ensures state { λ r. ⌜ ((c : Circuit) (o : Opened) (b : Bool) → state ≡ encodeLoaded (present c o) b → isGate 16 g ≡ true → length (c .gates) < length (now (history .entry)) → r ≡ encodeLoaded (present (extended c (g ∷ [])) o) b) ⌝ }
+    ensures state { λ r. ⌜ ((c : Circuit) (o : Opened) (b : Bool) → state ≡ encodeLoaded (present c o) b → isGate 16 g ≡ true →
+        length (c .gates) < length (now (history .entry)) → r ≡ encodeLoaded (present (extended c (g ∷ [])) o) b) ⌝ }
     ensures history { λ _. ⌜ now (history .exit) ≡ cond (ltb (state .held) (length (now (history .entry)))) (set (now (history .entry)) (state .held) (codeOf g)) (now (history .entry)) ⌝ }
 {
     let at = state.held;
@@ -41,8 +42,10 @@ fn take_gate(state: State, history: &mut [u32], g: Gate) -> State
 // The gates of a layer, from left to right.
 fn take_layer(state: State, history: &mut [u32], line: &[u8], n: usize) -> State
     requires { ⌜ formOf (now line) ≡ Form.Layer n ⌝ }
-    ensures { λ r. ⌜ ((c : Circuit) (o : Opened) (b : Bool) → state ≡ encodeLoaded (present c o) b → areGates 16 (layerGates (now (line .entry))) ≡ true → length (c .gates) + n ≤ length (now (history .entry)) →
-        (r ≡ encodeLoaded (present (extended c (layerGates (now (line .entry)))) o) b) × (now (history .exit) ≡ stored (length (c .gates)) (layerGates (now (line .entry))) (now (history .entry)))) ⌝ }
+    ensures { λ r. ⌜ ((c : Circuit) (o : Opened) (b : Bool) → state ≡ encodeLoaded (present c o) b →
+        areGates 16 (layerGates (now (line .entry))) ≡ true → length (c .gates) + n ≤ length (now (history .entry)) →
+        (r ≡ encodeLoaded (present (extended c (layerGates (now (line .entry)))) o) b) ×
+        (now (history .exit) ≡ stored (length (c .gates)) (layerGates (now (line .entry))) (now (history .entry)))) ⌝ }
 {
     let mut next = state;
     let mut at: usize = 6;
@@ -61,8 +64,11 @@ fn take_layer(state: State, history: &mut [u32], line: &[u8], n: usize) -> State
 // The gates of a line: one, or those of a layer.
 pub fn take_gates(state: State, history: &mut [u32], line: &[u8], form: Form) -> State
     requires { ⌜ form ≡ formOf (now line) ⌝ }
-    ensures { λ r. ⌜ ((c : Circuit) (o : Opened) (b : Bool) → state ≡ encodeLoaded (present c o) b → areGates 16 (lineGates form (now (line .entry))) ≡ true → length (c .gates) + length (lineGates form (now (line .entry))) ≤ length (now (history .entry)) →
-        (r ≡ encodeLoaded (present (extended c (lineGates form (now (line .entry)))) o) b) × (now (history .exit) ≡ stored (length (c .gates)) (lineGates form (now (line .entry))) (now (history .entry)))) ⌝ }
+    ensures { λ r. ⌜ ((c : Circuit) (o : Opened) (b : Bool) → state ≡ encodeLoaded (present c o) b →
+        areGates 16 (lineGates form (now (line .entry))) ≡ true →
+        length (c .gates) + length (lineGates form (now (line .entry))) ≤ length (now (history .entry)) →
+        (r ≡ encodeLoaded (present (extended c (lineGates form (now (line .entry)))) o) b) ×
+        (now (history .exit) ≡ stored (length (c .gates)) (lineGates form (now (line .entry))) (now (history .entry)))) ⌝ }
 {
     match form {
         Form::Ccz(i, j, k) => take_gate(state, history, Gate::Ccz(i, j, k)),
@@ -75,7 +81,9 @@ pub fn take_gates(state: State, history: &mut [u32], line: &[u8], form: Form) ->
 
 // The last gate taken back: applied once more.
 fn undo_gate(state: State, history: &[u32]) -> State
-    ensures { λ r. ⌜ ((c : Circuit) (o : Opened) (b : Bool) (gs : List Gate) (g : Gate) → c .gates ≡ gs ++ (g ∷ []) → state ≡ encodeLoaded (present c o) b → isGate 16 g ≡ true → take (length (c .gates)) (now (history .entry)) ≡ map codeOf (c .gates) →
+    ensures { λ r. ⌜ ((c : Circuit) (o : Opened) (b : Bool) (gs : List Gate) (g : Gate) → c .gates ≡ gs ++ (g ∷ []) →
+        state ≡ encodeLoaded (present c o) b → isGate 16 g ≡ true →
+        take (length (c .gates)) (now (history .entry)) ≡ map codeOf (c .gates) →
         r ≡ encodeLoaded (present (record { m = c .m; gates = gs; start = c .start }) o) b) ⌝ }
 {
     let held = state.held;
@@ -97,7 +105,8 @@ fn undo_gate(state: State, history: &[u32]) -> State
 
 // The last `k` gates taken back, last gate first.
 pub fn undo(state: State, history: &[u32], k: usize) -> State
-    ensures { λ r. ⌜ ((c : Circuit) (o : Opened) (b : Bool) → state ≡ encodeLoaded (present c o) b → areGates 16 (c .gates) ≡ true → k ≤ length (c .gates) → take (length (c .gates)) (now (history .entry)) ≡ map codeOf (c .gates) →
+    ensures { λ r. ⌜ ((c : Circuit) (o : Opened) (b : Bool) → state ≡ encodeLoaded (present c o) b → areGates 16 (c .gates) ≡ true →
+        k ≤ length (c .gates) → take (length (c .gates)) (now (history .entry)) ≡ map codeOf (c .gates) →
         r ≡ encodeLoaded (present (record { m = c .m; gates = take (length (c .gates) - k) (c .gates); start = c .start }) o) b) ⌝ }
 {
     let mut next = state;

@@ -15,7 +15,8 @@ use circuit::Colour;
 
 // The state with a sum opened for an output string, the start's ones added. Its table is made here, once.
 fn open_sum(state: State, kind: Kind, colour: Colour, r: u32, b: u32, g: u32) -> State
-    ensures { λ s. ⌜ ((c : Circuit) (o : Opened) (l : Bool) (p : Purpose) → state ≡ encodeLoaded (present c o) l → kind ≡ kindOf p → s ≡ encodeLoaded (opening c p colour (record { red = r; blue = b; green = g }) .after) l) ⌝ }
+    ensures { λ s. ⌜ ((c : Circuit) (o : Opened) (l : Bool) (p : Purpose) → state ≡ encodeLoaded (present c o) l → kind ≡ kindOf p →
+        s ≡ encodeLoaded (opening c p colour (record { red = r; blue = b; green = g }) .after) l) ⌝ }
 {
     let start = state.start;
     let m = state.m;
@@ -49,7 +50,9 @@ fn slice_count(m: usize) -> usize
 
 // `(amp C R B G)`
 pub fn open_amplitude(state: State, colour: Colour, r: u32, b: u32, g: u32) -> Turn
-    ensures { λ t. ⌜ ((c : Circuit) (o : Opened) (l : Bool) → SoundCircuit c o → state ≡ encodeLoaded (present c o) l → (t .state ≡ encodeLoaded (opening c amplitude colour (record { red = r; blue = b; green = g }) .after) l) × (t .answer ≡ opening c amplitude colour (record { red = r; blue = b; green = g }) .answer)) ⌝ }
+    ensures { λ t. ⌜ ((c : Circuit) (o : Opened) (l : Bool) → SoundCircuit c o → state ≡ encodeLoaded (present c o) l →
+        (t .state ≡ encodeLoaded (opening c amplitude colour (record { red = r; blue = b; green = g }) .after) l) ×
+        (t .answer ≡ opening c amplitude colour (record { red = r; blue = b; green = g }) .answer)) ⌝ }
 {
     let next = open_sum(state, Kind::Amplitude, colour, r, b, g);
     Turn {
@@ -60,7 +63,9 @@ pub fn open_amplitude(state: State, colour: Colour, r: u32, b: u32, g: u32) -> T
 
 // `(part C X Y)`: zeros stand for the unread colour.
 pub fn open_readout(state: State, colour: Colour, x: u32, y: u32) -> Turn
-    ensures { λ t. ⌜ ((c : Circuit) (o : Opened) (l : Bool) → SoundCircuit c o → state ≡ encodeLoaded (present c o) l → (t .state ≡ encodeLoaded (opening c readout colour (besideUnread colour x y) .after) l) × (t .answer ≡ opening c readout colour (besideUnread colour x y) .answer)) ⌝ }
+    ensures { λ t. ⌜ ((c : Circuit) (o : Opened) (l : Bool) → SoundCircuit c o → state ≡ encodeLoaded (present c o) l →
+        (t .state ≡ encodeLoaded (opening c readout colour (besideUnread colour x y) .after) l) ×
+        (t .answer ≡ opening c readout colour (besideUnread colour x y) .answer)) ⌝ }
 {
     let next = match colour {
         Colour::Red => open_sum(state, Kind::Readout, colour, 0, x, y),
@@ -84,7 +89,8 @@ pub fn close(state: State) -> State
 
 // The state with a sum of more slices worked.
 fn with_sum(state: State, sum: Sum) -> State
-    ensures { λ s. ⌜ ((c : Circuit) (o q : Opened) (l : Bool) → state ≡ encodeLoaded (present c o) l → sum ≡ encodeSum (c .m) q → s ≡ encodeLoaded (present c q) l) ⌝ }
+    ensures { λ s. ⌜ ((c : Circuit) (o q : Opened) (l : Bool) → state ≡ encodeLoaded (present c o) l → sum ≡ encodeSum (c .m) q →
+        s ≡ encodeLoaded (present c q) l) ⌝ }
 {
     let mut next = state;
     next.sum = sum;
@@ -94,7 +100,9 @@ fn with_sum(state: State, sum: Sum) -> State
 // The open sum with `count` more slices worked.
 fn worked_on(state: State, count: usize) -> Sum
     requires { ⌜ state .sum .worked + count ≤ 65536 ⌝ }
-    ensures { λ s. ⌜ ((c : Circuit) (o : OpenSum) (l : Bool) → SoundCircuit c (running o) → state ≡ encodeLoaded (present c (running o)) l → o .worked + count ≤ 2 ^ c .m → s ≡ encodeSum (c .m) (running (record { purpose = o .purpose; colour = o .colour; output = o .output; gates = o .gates; worked = o .worked + count }))) ⌝ }
+    ensures { λ s. ⌜ ((c : Circuit) (o : OpenSum) (l : Bool) → SoundCircuit c (running o) →
+        state ≡ encodeLoaded (present c (running o)) l → o .worked + count ≤ 2 ^ c .m →
+        s ≡ encodeSum (c .m) (running (record { purpose = o .purpose; colour = o .colour; output = o .output; gates = o .gates; worked = o .worked + count }))) ⌝ }
 {
     let m = state.m;
     let sum = state.sum;
@@ -142,7 +150,9 @@ fn total_of(sum: Sum, m: usize) -> Answer
 
 // `k` more slices of an open sum, or all that are left.
 fn step_open(state: State, k: usize) -> Turn
-    ensures { λ t. ⌜ ((c : Circuit) (o : OpenSum) (l : Bool) → SoundCircuit c (running o) → state ≡ encodeLoaded (present c (running o)) l → (t .state ≡ encodeLoaded (stepped c o k .after) l) × (t .answer ≡ stepped c o k .answer)) ⌝ }
+    ensures { λ t. ⌜ ((c : Circuit) (o : OpenSum) (l : Bool) → SoundCircuit c (running o) →
+        state ≡ encodeLoaded (present c (running o)) l → (t .state ≡ encodeLoaded (stepped c o k .after) l) ×
+        (t .answer ≡ stepped c o k .answer)) ⌝ }
 {
     let m = state.m;
     let sum = state.sum;
@@ -172,7 +182,8 @@ fn step_open(state: State, k: usize) -> Turn
 
 // `(step k)`
 pub fn step(state: State, k: usize) -> Turn
-    ensures { λ t. ⌜ ((c : Circuit) (o : Opened) (l : Bool) → SoundCircuit c o → state ≡ encodeLoaded (present c o) l → (t .state ≡ encodeLoaded (stepOf c o k .after) l) × (t .answer ≡ stepOf c o k .answer)) ⌝ }
+    ensures { λ t. ⌜ ((c : Circuit) (o : Opened) (l : Bool) → SoundCircuit c o → state ≡ encodeLoaded (present c o) l →
+        (t .state ≡ encodeLoaded (stepOf c o k .after) l) × (t .answer ≡ stepOf c o k .answer)) ⌝ }
 {
     let sum = state.sum;
     let kind = sum.kind;

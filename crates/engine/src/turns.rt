@@ -33,7 +33,8 @@ fn new_circuit(m: usize, listed: bool) -> State
 }
 
 fn set_start(state: State, r: u32, b: u32, g: u32) -> State
-    ensures { λ s. ⌜ ((c : Circuit) (o : Opened) (l : Bool) → state ≡ encodeLoaded (present c o) l → s ≡ encodeLoaded (withNewStart c o (record { red = r; blue = b; green = g }) .after) l) ⌝ }
+    ensures { λ s. ⌜ ((c : Circuit) (o : Opened) (l : Bool) → state ≡ encodeLoaded (present c o) l →
+        s ≡ encodeLoaded (withNewStart c o (record { red = r; blue = b; green = g }) .after) l) ⌝ }
 {
     let mut next = state;
     let start = Numbers {
@@ -70,7 +71,8 @@ fn is_open(kind: Kind) -> bool
 // Each stage takes its own form apart; a line that is none of its own is given back at once.
 
 fn circuit_turn(state: State, form: Form) -> Turn
-    ensures { λ t. ⌜ ((m : ℕ) → form ≡ Form.Circuit m → (t .state ≡ encodeLoaded (newCircuit m .after) (state .listed)) × (t .answer ≡ newCircuit m .answer)) ⌝ }
+    ensures { λ t. ⌜ ((m : ℕ) → form ≡ Form.Circuit m → (t .state ≡ encodeLoaded (newCircuit m .after) (state .listed)) ×
+        (t .answer ≡ newCircuit m .answer)) ⌝ }
 {
     let Form::Circuit(m) = form else {
         return turned_back(state, form);
@@ -83,8 +85,11 @@ fn circuit_turn(state: State, form: Form) -> Turn
 
 fn gate_turn(state: State, history: &mut [u32], line: &[u8], form: Form) -> Turn
     requires { ⌜ form ≡ formOf (now line) ⌝ }
-    ensures { λ t. ⌜ ((c : Circuit) (o : Opened) (l : Bool) → state ≡ encodeLoaded (present c o) l → areGates 16 (lineGates form (now (line .entry))) ≡ true → length (c .gates) + length (lineGates form (now (line .entry))) ≤ length (now (history .entry)) →
-        (t .state ≡ encodeLoaded (withGates c o (lineGates form (now (line .entry))) .after) l) × (t .answer ≡ Answer.Ok) × (now (history .exit) ≡ stored (length (c .gates)) (lineGates form (now (line .entry))) (now (history .entry)))) ⌝ }
+    ensures { λ t. ⌜ ((c : Circuit) (o : Opened) (l : Bool) → state ≡ encodeLoaded (present c o) l →
+        areGates 16 (lineGates form (now (line .entry))) ≡ true →
+        length (c .gates) + length (lineGates form (now (line .entry))) ≤ length (now (history .entry)) →
+        (t .state ≡ encodeLoaded (withGates c o (lineGates form (now (line .entry))) .after) l) × (t .answer ≡ Answer.Ok) ×
+        (now (history .exit) ≡ stored (length (c .gates)) (lineGates form (now (line .entry))) (now (history .entry)))) ⌝ }
 {
     let next = crate::gates::take_gates(state, history, line, form);
     let answer = Answer::Ok;
@@ -95,7 +100,9 @@ fn gate_turn(state: State, history: &mut [u32], line: &[u8], form: Form) -> Turn
 }
 
 fn undo_turn(state: State, history: &[u32], form: Form) -> Turn
-    ensures { λ t. ⌜ ((k : ℕ) (c : Circuit) (o : Opened) (l : Bool) → form ≡ Form.Undo k → SoundCircuit c o → k ≤ length (c .gates) → take (length (c .gates)) (now (history .entry)) ≡ map codeOf (c .gates) → state ≡ encodeLoaded (present c o) l → Done c o l form [] (t .state) (t .answer)) ⌝ }
+    ensures { λ t. ⌜ ((k : ℕ) (c : Circuit) (o : Opened) (l : Bool) → form ≡ Form.Undo k → SoundCircuit c o → k ≤ length (c .gates) →
+        take (length (c .gates)) (now (history .entry)) ≡ map codeOf (c .gates) → state ≡ encodeLoaded (present c o) l →
+        Done c o l form [] (t .state) (t .answer)) ⌝ }
 {
     let Form::Undo(k) = form else {
         return turned_back(state, form);
@@ -159,7 +166,8 @@ fn terms_turn(state: State) -> Turn
 // A line that no place turned back.
 fn taken(state: State, history: &mut [u32], line: &[u8], form: Form) -> Turn
     requires { ⌜ form ≡ formOf (now line) ⌝ }
-    ensures { λ t. ⌜ ((e : Engine) → Free e state (now (history .entry)) form (lineGates form (now (line .entry))) → Taken e (now (history .entry)) form (lineGates form (now (line .entry))) (t .state) (t .answer) (now (history .exit))) ⌝ }
+    ensures { λ t. ⌜ ((e : Engine) → Free e state (now (history .entry)) form (lineGates form (now (line .entry))) →
+        Taken e (now (history .entry)) form (lineGates form (now (line .entry))) (t .state) (t .answer) (now (history .exit))) ⌝ }
 {
     match form {
         Form::Circuit(_) => circuit_turn(state, form),
@@ -183,7 +191,8 @@ fn taken(state: State, history: &mut [u32], line: &[u8], form: Form) -> Turn
 
 // A line's turn: it is read, the places are tried, and then it is taken.
 pub fn turn(state: State, history: &mut [u32], line: &[u8]) -> Turn
-    ensures { λ t. ⌜ ((e : Engine) → Holds e state (now (history .entry)) → Turned e (now (history .entry)) (formOf (now (line .entry))) (lineGates (formOf (now (line .entry))) (now (line .entry))) (t .state) (t .answer) (now (history .exit))) ⌝ }
+    ensures { λ t. ⌜ ((e : Engine) → Holds e state (now (history .entry)) →
+        Turned e (now (history .entry)) (formOf (now (line .entry))) (lineGates (formOf (now (line .entry))) (now (line .entry))) (t .state) (t .answer) (now (history .exit))) ⌝ }
 {
     let m = state.m;
     let sum = state.sum;

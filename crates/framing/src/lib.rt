@@ -28,6 +28,7 @@ pub fn empty() -> Pending
     }
 }
 
+// How many of the bytes wanted fit behind the first `at`.
 fn room(size: usize, at: usize, wanted: usize) -> usize
     ensures { λ r. ⌜ r ≡ min (size - at) wanted ⌝ }
 {
@@ -81,6 +82,7 @@ pub fn front(bytes: &[u8], len: usize) -> &[u8]
     bytes
 }
 
+// A part behind the line so far; what does not fit is not kept.
 fn append(pending: Pending, part: &[u8]) -> Pending
     ensures { λ r. ⌜ r ≡ joined pending (now (part .entry)) ⌝ }
 {

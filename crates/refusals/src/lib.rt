@@ -21,7 +21,8 @@ pub fn try_line(
     held: usize,
     line: &[u8],
 ) -> Tried
-    ensures { λ r. ⌜ (r .form ≡ formOf (now (line .entry))) × (r .refusal ≡ refusalBy loaded summing m room held (formOf (now (line .entry))) (lineGates (formOf (now (line .entry))) (now (line .entry)))) ⌝ }
+    ensures { λ r. ⌜ (r .form ≡ formOf (now (line .entry))) ×
+        (r .refusal ≡ refusalBy loaded summing m room held (formOf (now (line .entry))) (lineGates (formOf (now (line .entry))) (now (line .entry)))) ⌝ }
 {
     let form = lines::read(line);
     let refusal = places::refusal(loaded, summing, m, room, held, line, form);

@@ -128,7 +128,8 @@ fn layer_checked(m: usize, line: &[u8], n: usize) -> Checked
 // Over the gates of a line: one, those of a layer, or none.
 fn gates_checked(m: usize, line: &[u8], form: Form) -> Checked
     requires { ⌜ form ≡ formOf (now line) ⌝ }
-    ensures { λ r. ⌜ (r .inside ≡ allInRange m (lineGates form (now (line .entry)))) × (r .itself ≡ anyOnItself (lineGates form (now (line .entry)))) ⌝ }
+    ensures { λ r. ⌜ (r .inside ≡ allInRange m (lineGates form (now (line .entry)))) ×
+        (r .itself ≡ anyOnItself (lineGates form (now (line .entry)))) ⌝ }
 {
     match form {
         Form::Ccz(i, j, k) => gate_checked(m, Gate::Ccz(i, j, k)),
