@@ -135,14 +135,16 @@ pub fn gate_part(line: &[u8]) -> &[u8]
     &line[0..next]
 }
 
-// The gate of a layer line behind the space at `at`, and the place after it in the whole line.
+// The gate of a layer line behind the space at `at`, and the place after it in the whole line. It is handed on as its own part of the line,
+// and what follows the space is read from the middle of the line on.
 pub fn layer_gate(line: &[u8], at: usize) -> GateAt
     ensures { λ r. ⌜ r ≡ layerGateAt (now (line .entry)) at ⌝ }
 {
     let KeywordAt::Ends(from) = read_keyword(line, at, b" ") else {
         return GateAt::Missing;
     };
-    let GateAt::Read { gate, next } = first_gate(&line[from..]) else {
+    let part = gate_part(&line[from..]);
+    let GateAt::Read { gate, next } = first_gate(part) else {
         return GateAt::Missing;
     };
     GateAt::Read {

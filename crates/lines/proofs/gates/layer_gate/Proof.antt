@@ -1,14 +1,24 @@
 -- The space that was read ends within the line, and so does the gate behind it, so its place in the whole line is no sum that wraps.
-use mathlib.Core.Path.{ap, sym, _∙_}
+use Prim.Native.Nat.{ℕ, _-_}
+use mathlib.Core.Path.{_≡_, ap, sym, _∙_}
+use mathlib.Core.List.{List}
+use lib.ListN.{length, take, drop}
 use native.Mathlib.Omega.{arith}
 use denote.Ref.{now}
 use Rattle.text.specs.Spelling.{bytes}
 use Rattle.text.proofs.Items.{keyword-fits}
-use Rattle.lines.specs.Gates.{readGate, layerGateAt}
+use Rattle.lines.specs.Gates.{readGate, gatePart, layerGateAt}
+use Rattle.lines.specs.declared.GateAt.{GateAt}
 use Rattle.lines.proofs.Scanning.{part-all, gate-fits-from}
+use Rattle.lines.proofs.GateSpelling.{gatePart-read}
 use borrow.Author.Needs.{needs}
 use Rattle.lines.proofs.gates.layer_gate.Statement.{statement}
 use Rattle.lines.proofs.gates.layer_gate.Tie as tie
+
+-- The gate's own part of the line is read as what stands at that place.
+part-read : (l : List ℕ) (from : ℕ) {part : List ℕ} {g : GateAt} → part ≡ gatePart (take (length l - from) (drop from l)) → readGate part ≡ g → readGate (drop from l) ≡ g
+part-read l from p r =
+    sym (gatePart-read (drop from l)) ∙ ap (λ (x : List ℕ). readGate (gatePart x)) (sym (part-all l from)) ∙ ap readGate (sym p) ∙ r
 
 slice-aggregate-read-keyword : tie.Need-slice-aggregate-read-keyword
 slice-aggregate-read-keyword c = search needs
@@ -26,18 +36,21 @@ returns : tie.Need-returns
 unfolding layerGateAt
 returns c = rw (sym (c .before .before .read-keyword .ensures) ∙ c .enum-told .given .1)
 
-sub-first-gate : tie.Need-sub-first-gate
-sub-first-gate c =
-    let l = now (c .before .before .before .before .before .before .args .line) in
-    omega (arith, keyword-fits l (c .before .before .before .before .before .before .args .at) (bytes " ") _ (sym (c .before .before .before .read-keyword .ensures) ∙ c .before .from .given .1) (omega arith))
+sub-gate-part : tie.Need-sub-gate-part
+sub-gate-part c =
+    let args = c .before .before .before .before .before .before .args in
+    omega (arith, keyword-fits (now (args .line)) (args .at) (bytes " ") _ (sym (c .before .before .before .read-keyword .ensures) ∙ c .before .from .given .1) (omega arith))
 
-part-first-gate-start : tie.Need-part-first-gate-start
-part-first-gate-start c =
-    let l = now (c .before .before .before .before .before .before .args .line) in
-    keyword-fits l (c .before .before .before .before .before .before .args .at) (bytes " ") _ (sym (c .before .before .before .read-keyword .ensures) ∙ c .before .from .given .1) (omega arith)
+part-gate-part-start : tie.Need-part-gate-part-start
+part-gate-part-start c =
+    let args = c .before .before .before .before .before .before .args in
+    keyword-fits (now (args .line)) (args .at) (bytes " ") _ (sym (c .before .before .before .read-keyword .ensures) ∙ c .before .from .given .1) (omega arith)
 
-part-first-gate-end : tie.Need-part-first-gate-end
-part-first-gate-end c = search needs
+part-gate-part-end : tie.Need-part-gate-part-end
+part-gate-part-end c = search needs
+
+gate-part-requires : tie.Need-gate-part-requires
+gate-part-requires c κs = search needs
 
 first-gate-requires : tie.Need-first-gate-requires
 first-gate-requires c κs = search needs
@@ -51,31 +64,32 @@ enum-told-2 c = search needs
 returns-2 : tie.Need-returns-2
 unfolding layerGateAt
 returns-2 c =
-    let l = now (c .before .before .before .before .before .before .before .before .before .before .args .line) in
-    let from = c .before .before .before .before .before .from .given .0 .0 in
+    let l = now (c .before .before .before .before .before .before .before .before .before .before .before .args .line) in
+    let from = c .before .before .before .before .before .before .from .given .0 .0 in
     rw (
-      sym (c .before .before .before .before .before .before .before .read-keyword .ensures) ∙ c .before .before .before .before .before .from .given .1,
-      ap readGate (sym (part-all l from)) ∙ sym (c .before .before .first-gate .ensures) ∙ c .enum-told2 .given .1,
+      sym (c .before .before .before .before .before .before .before .before .read-keyword .ensures) ∙ c .before .before .before .before .before .before .from .given .1,
+      part-read l from (c .before .before .before .gate-part .ensures) (sym (c .before .before .first-gate .ensures) ∙ c .enum-told2 .given .1),
     )
 
 add-t12 : tie.Need-add-t12
 add-t12 c =
-    let l = now (c .before .before .before .before .before .before .before .before .before .before .before .args .line) in
-    let from = c .before .before .before .before .before .before .from .given .0 .0 in
-    let space = keyword-fits l (c .before .before .before .before .before .before .before .before .before .before .before .args .at) (bytes " ") _ (sym (c .before .before .before .before .before .before .before .before .read-keyword .ensures) ∙ c .before .before .before .before .before .before .from .given .1) (omega arith) in
+    let args = c .before .before .before .before .before .before .before .before .before .before .before .before .args in
+    let l = now (args .line) in
+    let from = c .before .before .before .before .before .before .before .from .given .0 .0 in
+    let space = keyword-fits l (args .at) (bytes " ") _ (sym (c .before .before .before .before .before .before .before .before .before .read-keyword .ensures) ∙ c .before .before .before .before .before .before .before .from .given .1) (omega arith) in
     omega (
       arith,
-      gate-fits-from l from _ _ (ap readGate (sym (part-all l from)) ∙ sym (c .before .before .before .first-gate .ensures) ∙ c .before .gate .given .1),
+      gate-fits-from l from _ _ (part-read l from (c .before .before .before .before .gate-part .ensures) (sym (c .before .before .before .first-gate .ensures) ∙ c .before .gate .given .1)),
     )
 
 returns-3 : tie.Need-returns-3
 unfolding layerGateAt
 returns-3 c =
-    let l = now (c .before .before .before .before .before .before .before .before .before .before .before .args .line) in
-    let from = c .before .before .before .before .before .before .from .given .0 .0 in
+    let l = now (c .before .before .before .before .before .before .before .before .before .before .before .before .args .line) in
+    let from = c .before .before .before .before .before .before .before .from .given .0 .0 in
     rw (
-      sym (c .before .before .before .before .before .before .before .before .read-keyword .ensures) ∙ c .before .before .before .before .before .before .from .given .1,
-      ap readGate (sym (part-all l from)) ∙ sym (c .before .before .before .first-gate .ensures) ∙ c .before .gate .given .1,
+      sym (c .before .before .before .before .before .before .before .before .before .read-keyword .ensures) ∙ c .before .before .before .before .before .before .before .from .given .1,
+      part-read l from (c .before .before .before .before .gate-part .ensures) (sym (c .before .before .before .first-gate .ensures) ∙ c .before .gate .given .1),
     )
 
 pub layer-gate-spec : {M : Type 1} → statement M
@@ -87,9 +101,10 @@ layer-gate-spec =
     enum-known-from
     enum-told
     returns
-    sub-first-gate
-    part-first-gate-start
-    part-first-gate-end
+    sub-gate-part
+    part-gate-part-start
+    part-gate-part-end
+    gate-part-requires
     first-gate-requires
     enum-known-gate
     enum-told-2
