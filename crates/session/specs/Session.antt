@@ -59,7 +59,7 @@ sessionOf input = withLines begun (linesOf input)
 
 -- ---- what the program holds of it
 
--- What waits in the output buffer is the end of what was said; what was said before it has been written.
+-- What waits in the output buffer is the end of what was said. What was said before it went to `flush`, the one function that writes.
 pub record Waits (said out : List ℕ) (w : Waiting) : Type 0 where
   pub written : List ℕ
   pub fits : w .len ≤ length out
