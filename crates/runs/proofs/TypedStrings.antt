@@ -21,22 +21,22 @@ use Rattle.lines.specs.declared.Form.the-variants as Form
 use Rattle.lines.specs.Spelling.{Typed, circuit, gate, layer, undo, start, amp, part, step, drop, terms, spelled, colourTwice, anyColourTwice, twiceIn, heldGate, gateForm, held}
 use Rattle.lines.specs.Forms.{formOf}
 use Rattle.lines.proofs.FormReading.{readAs, form-cases}
-use Rattle.text.specs.Spelling.{numberFrom, numberOfBits}
+use Rattle.text.specs.Spelling.{numberAfter, numberOfBits}
 use Rattle.text.specs.Reading.{heldBits}
 use Rattle.runs.specs.Runs.{typed}
 
 -- The digits after a value: the value moves up, and they stand below it.
-number-after : (v : ℕ) (s : BitString) → numberFrom v s ≡ numberFrom 0 s + v * 2 ^ length s
-unfolding numberFrom
+number-after : (v : ℕ) (s : BitString) → numberAfter v s ≡ numberAfter 0 s + v * 2 ^ length s
+unfolding numberAfter
 number-after v [] = omega arith
 number-after v (b ∷ s) = rw (number-after (v * 2 + cond b 1 0) s, number-after (0 * 2 + cond b 1 0) s, pow-suc 2 (length s)) (omega arith)
 
 pub number-below : (s : BitString) → numberOfBits s < 2 ^ length s
-unfolding numberOfBits numberFrom
+unfolding numberOfBits numberAfter
 number-below [] = omega arith
 number-below (b ∷ s) = rw (number-after (0 * 2 + cond b 1 0) s, pow-suc 2 (length s)) (go b (number-below s))
   where
-    go : (b : Bool) → numberFrom 0 s < 2 ^ length s → numberFrom 0 s + (0 * 2 + cond b 1 0) * 2 ^ length s < 2 ^ length s * 2
+    go : (b : Bool) → numberAfter 0 s < 2 ^ length s → numberAfter 0 s + (0 * 2 + cond b 1 0) * 2 ^ length s < 2 ^ length s * 2
     go true h = omega arith
     go false h = omega arith
 
@@ -49,22 +49,22 @@ unfolding odd bitOf
 odd-nought = refl
 
 pub digits-back : (s : BitString) → highFirst (length s) (numberOfBits s) ≡ s
-unfolding highFirst numberOfBits numberFrom
+unfolding highFirst numberOfBits numberAfter
 digits-back [] = refl
 digits-back (b ∷ s) =
     ap₂ _∷_ (ap (λ (w : ℕ). odd (w / 2 ^ length s)) number ∙ first b)
-    (ap (highFirst (length s)) number ∙ highFirst-shift (length s) (numberFrom 0 s) (cond b 1 0) ∙ digits-back s)
+    (ap (highFirst (length s)) number ∙ highFirst-shift (length s) (numberAfter 0 s) (cond b 1 0) ∙ digits-back s)
   where
-    number : numberFrom (0 * 2 + cond b 1 0) s ≡ numberFrom 0 s + cond b 1 0 * 2 ^ length s
-    number = number-after (0 * 2 + cond b 1 0) s ∙ ap (λ (d : ℕ). numberFrom 0 s + d * 2 ^ length s) (zero-add (cond b 1 0))
+    number : numberAfter (0 * 2 + cond b 1 0) s ≡ numberAfter 0 s + cond b 1 0 * 2 ^ length s
+    number = number-after (0 * 2 + cond b 1 0) s ∙ ap (λ (d : ℕ). numberAfter 0 s + d * 2 ^ length s) (zero-add (cond b 1 0))
 
-    top : (d : ℕ) → (numberFrom 0 s + d * 2 ^ length s) / 2 ^ length s ≡ d
+    top : (d : ℕ) → (numberAfter 0 s + d * 2 ^ length s) / 2 ^ length s ≡ d
     top d =
-        add-mul-div-right (numberFrom 0 s) d (pow-pos (length s))
+        add-mul-div-right (numberAfter 0 s) d (pow-pos (length s))
         ∙ ap (λ (n : ℕ). n + d) (div-eq-of-lt (number-below s))
         ∙ zero-add d
 
-    first : (b : Bool) → odd ((numberFrom 0 s + cond b 1 0 * 2 ^ length s) / 2 ^ length s) ≡ b
+    first : (b : Bool) → odd ((numberAfter 0 s + cond b 1 0 * 2 ^ length s) / 2 ^ length s) ≡ b
     first true = ap odd (top 1) ∙ odd-one
     first false = ap odd (top 0) ∙ odd-nought
 

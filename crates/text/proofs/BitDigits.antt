@@ -10,7 +10,7 @@ use lib.Dec.{eqb}
 use borrow.Author.Tests.{eqb-true}
 use Rattle.gf2.specs.Strings.{BitString}
 use Rattle.gf2.proofs.Impossible.{never}
-use Rattle.text.specs.Spelling.{bitDigits, numberFrom}
+use Rattle.text.specs.Spelling.{bitDigits, numberAfter}
 use Rattle.text.specs.Reading.{bitsFrom}
 use Rattle.text.specs.declared.BitsAt.the-variants.{Read as BitsRead}
 
@@ -35,8 +35,8 @@ bits-end n v at (x ∷ rest) s = go (eqb x 48) (eqb x 49) s
 -- Bits after the number v: to hold their number modulo 2 ^ 16 at every bit is to hold it so at the end.
 pub bits-spelled : (s : BitString) (rest : List ℕ) (n v at : ℕ) → startsBit rest ≡ false
     → bitsFrom n (v % 65536) at (bitDigits s ++ rest)
-    ≡ BitsRead (record { len = n + length s; value = numberFrom v s % 65536 }) (at + length (bitDigits s))
-unfolding bitsFrom bitDigits numberFrom
+    ≡ BitsRead (record { len = n + length s; value = numberAfter v s % 65536 }) (at + length (bitDigits s))
+unfolding bitsFrom bitDigits numberAfter
 bits-spelled [] rest n v at h = rw (add-zero n, add-zero at) (bits-end n (v % 65536) at rest h)
 bits-spelled (b ∷ s) rest n v at h = one b (bits-spelled s rest (n + 1) (v * 2 + cond b 1 0) (at + 1) h)
   where
@@ -50,15 +50,15 @@ bits-spelled (b ∷ s) rest n v at h = one b (bits-spelled s rest (n + 1) (v * 2
 
     one : (b : Bool)
         → bitsFrom (n + 1) ((v * 2 + cond b 1 0) % 65536) (at + 1) (bitDigits s ++ rest)
-        ≡ BitsRead (record { len = n + 1 + length s; value = numberFrom (v * 2 + cond b 1 0) s % 65536 }) (at + 1 + length (bitDigits s))
+        ≡ BitsRead (record { len = n + 1 + length s; value = numberAfter (v * 2 + cond b 1 0) s % 65536 }) (at + 1 + length (bitDigits s))
         → bitsFrom n (v % 65536) at (cond b 49 48 ∷ (bitDigits s ++ rest))
-        ≡ BitsRead (record { len = n + suc (length s); value = numberFrom (v * 2 + cond b 1 0) s % 65536 }) (at + suc (length (bitDigits s)))
+        ≡ BitsRead (record { len = n + suc (length s); value = numberAfter (v * 2 + cond b 1 0) s % 65536 }) (at + suc (length (bitDigits s)))
     one true r =
         let c : (v % 65536 * 2 + 1) % 65536 ≡ (v * 2 + 1) % 65536 = omega arith in
-        ap (λ (w : ℕ). bitsFrom (n + 1) w (at + 1) (bitDigits s ++ rest)) c ∙ r ∙ onward (numberFrom (v * 2 + 1) s % 65536)
+        ap (λ (w : ℕ). bitsFrom (n + 1) w (at + 1) (bitDigits s ++ rest)) c ∙ r ∙ onward (numberAfter (v * 2 + 1) s % 65536)
     one false r =
         let c : v % 65536 * 2 % 65536 ≡ (v * 2 + 0) % 65536 = omega arith in
-        ap (λ (w : ℕ). bitsFrom (n + 1) w (at + 1) (bitDigits s ++ rest)) c ∙ r ∙ onward (numberFrom (v * 2 + 0) s % 65536)
+        ap (λ (w : ℕ). bitsFrom (n + 1) w (at + 1) (bitDigits s ++ rest)) c ∙ r ∙ onward (numberAfter (v * 2 + 0) s % 65536)
 
 -- ---- the bits at the front of a list
 

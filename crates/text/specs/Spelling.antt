@@ -44,12 +44,12 @@ bitDigits [] = []
 bitDigits (b ∷ bs) = cond b 49 48 ∷ bitDigits bs
 
 -- The number that a bit string is, position 1 the highest digit.
-unfoldable pub numberFrom : ℕ → BitString → ℕ
-numberFrom v [] = v
-numberFrom v (b ∷ bs) = numberFrom (v * 2 + cond b 1 0) bs
+unfoldable pub numberAfter : ℕ → BitString → ℕ
+numberAfter v [] = v
+numberAfter v (b ∷ bs) = numberAfter (v * 2 + cond b 1 0) bs
 
 unfoldable pub numberOfBits : BitString → ℕ
-numberOfBits s = numberFrom 0 s
+numberOfBits s = numberAfter 0 s
 
 -- A position of a colour in its brackets: (C i)
 unfoldable pub spelledSpot : Spot → List ℕ
