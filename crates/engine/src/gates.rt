@@ -62,7 +62,7 @@ fn take_layer(state: State, history: &mut [u32], line: &[u8], n: usize) -> State
 }
 
 // The gates of a line: one, or those of a layer.
-pub fn take_gates(state: State, history: &mut [u32], line: &[u8], form: Form) -> State
+pub(crate) fn take_gates(state: State, history: &mut [u32], line: &[u8], form: Form) -> State
     requires { ⌜ form ≡ formOf (now line) ⌝ }
     ensures { λ r. ⌜ ((c : Circuit) (o : Opened) (b : Bool) → state ≡ encodeLoaded (present c o) b →
         areGates 16 (lineGates form (now (line .entry))) ≡ true →
@@ -104,7 +104,7 @@ fn undo_gate(state: State, history: &[u32]) -> State
 }
 
 // The last `k` gates taken back, last gate first.
-pub fn undo(state: State, history: &[u32], k: usize) -> State
+pub(crate) fn undo(state: State, history: &[u32], k: usize) -> State
     ensures { λ r. ⌜ ((c : Circuit) (o : Opened) (b : Bool) → state ≡ encodeLoaded (present c o) b → areGates 16 (c .gates) ≡ true →
         k ≤ length (c .gates) → take (length (c .gates)) (now (history .entry)) ≡ map codeOf (c .gates) →
         r ≡ encodeLoaded (present (record { m = c .m; gates = take (length (c .gates) - k) (c .gates); start = c .start }) o) b) ⌝ }

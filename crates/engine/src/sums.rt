@@ -49,7 +49,7 @@ fn slice_count(m: usize) -> usize
 }
 
 // `(amp C R B G)`
-pub fn open_amplitude(state: State, colour: Colour, r: u32, b: u32, g: u32) -> Turn
+pub(crate) fn open_amplitude(state: State, colour: Colour, r: u32, b: u32, g: u32) -> Turn
     ensures { λ t. ⌜ ((c : Circuit) (o : Opened) (l : Bool) → SoundCircuit c o → state ≡ encodeLoaded (present c o) l →
         (t .state ≡ encodeLoaded (opening c amplitude colour (record { red = r; blue = b; green = g }) .after) l) ×
         (t .answer ≡ opening c amplitude colour (record { red = r; blue = b; green = g }) .answer)) ⌝ }
@@ -62,7 +62,7 @@ pub fn open_amplitude(state: State, colour: Colour, r: u32, b: u32, g: u32) -> T
 }
 
 // `(part C X Y)`: zeros stand for the unread colour.
-pub fn open_readout(state: State, colour: Colour, x: u32, y: u32) -> Turn
+pub(crate) fn open_readout(state: State, colour: Colour, x: u32, y: u32) -> Turn
     ensures { λ t. ⌜ ((c : Circuit) (o : Opened) (l : Bool) → SoundCircuit c o → state ≡ encodeLoaded (present c o) l →
         (t .state ≡ encodeLoaded (opening c readout colour (besideUnread colour x y) .after) l) ×
         (t .answer ≡ opening c readout colour (besideUnread colour x y) .answer)) ⌝ }
@@ -79,7 +79,7 @@ pub fn open_readout(state: State, colour: Colour, x: u32, y: u32) -> Turn
 }
 
 // The state with its sum closed.
-pub fn close(state: State) -> State
+pub(crate) fn close(state: State) -> State
     ensures { λ s. ⌜ ((c : Circuit) (o : Opened) (l : Bool) → state ≡ encodeLoaded (present c o) l → s ≡ encodeLoaded (present c closed) l) ⌝ }
 {
     let mut next = state;
@@ -181,7 +181,7 @@ fn step_open(state: State, k: usize) -> Turn
 }
 
 // `(step k)`
-pub fn step(state: State, k: usize) -> Turn
+pub(crate) fn step(state: State, k: usize) -> Turn
     ensures { λ t. ⌜ ((c : Circuit) (o : Opened) (l : Bool) → SoundCircuit c o → state ≡ encodeLoaded (present c o) l →
         (t .state ≡ encodeLoaded (stepOf c o k .after) l) × (t .answer ≡ stepOf c o k .answer)) ⌝ }
 {

@@ -190,7 +190,7 @@ fn taken(state: State, history: &mut [u32], line: &[u8], form: Form) -> Turn
 }
 
 // A line's turn: it is read, the places are tried, and then it is taken.
-pub fn turn(state: State, history: &mut [u32], line: &[u8]) -> Turn
+pub(crate) fn turn(state: State, history: &mut [u32], line: &[u8]) -> Turn
     ensures { λ t. ⌜ ((e : Engine) → Holds e state (now (history .entry)) →
         Turned e (now (history .entry)) (formOf (now (line .entry))) (lineGates (formOf (now (line .entry))) (now (line .entry))) (t .state) (t .answer) (now (history .exit))) ⌝ }
 {

@@ -5,6 +5,7 @@ use native.Mathlib.Omega.{arith}
 use mathlib.Core.Path.{_≡_, refl, ap}
 use mathlib.Core.Bool.{Bool, true, false, cond}
 use mathlib.Core.List.{List, [], _∷_}
+use Rattle.gf2.proofs.Impossible.{never}
 use lib.Dec.{eqb}
 use lib.ListN.{length, getD, take, drop, drop-of-length-le}
 use lib.Seq.{drop-cons}
@@ -62,7 +63,7 @@ feed-missing (x ∷ xs) h = go (eqb x 10) h (feed-missing xs)
 
 pub feed-behind : (l : List ℕ) → hasFeed l ≡ true → length (upToFeed l) < length l
 unfolding upToFeed hasFeed
-feed-behind [] h = let z : _≡_ {A = ℕ} 0 1 = cc in absurd (omega arith)
+feed-behind [] h = never (cc)
 feed-behind (x ∷ xs) h = go (eqb x 10) h (feed-behind xs)
   where
     go : (t : Bool) → cond t true (hasFeed xs) ≡ true → (hasFeed xs ≡ true → length (upToFeed xs) < length xs) →

@@ -1,10 +1,10 @@
 -- Where the first line feed of some bytes cuts the lines of an input.
 use Prim.Native.Nat.{ℕ, suc, _+_}
 use native.Mathlib.Numerals.{add-one}
-use native.Mathlib.Omega.{arith}
 use mathlib.Core.Path.{_≡_}
 use mathlib.Core.Bool.{Bool, true, false, cond}
 use mathlib.Core.List.{List, [], _∷_, _++_, append-nil, append-assoc}
+use Rattle.gf2.proofs.Impossible.{never}
 use lib.Dec.{eqb}
 use lib.ListN.{length, drop}
 use Rattle.framing.specs.Framing.{upToFeed, hasFeed, linesAfter}
@@ -13,7 +13,7 @@ use Rattle.framing.specs.Framing.{upToFeed, hasFeed, linesAfter}
 pub first-line : (begun l input : List ℕ) → hasFeed l ≡ true →
     linesAfter begun (l ++ input) ≡ (begun ++ upToFeed l) ∷ linesAfter [] (drop (length (upToFeed l) + 1) l ++ input)
 unfolding hasFeed upToFeed linesAfter
-first-line begun [] input h = let z : _≡_ {A = ℕ} 0 1 = cc in absurd (omega arith)
+first-line begun [] input h = never (cc)
 first-line begun (x ∷ xs) input h = go (eqb x 10) h (first-line (begun ++ (x ∷ [])) xs input)
   where
     go : (t : Bool) → cond t true (hasFeed xs) ≡ true
@@ -36,5 +36,5 @@ no-line-yet begun (x ∷ xs) input h = go (eqb x 10) h (no-line-yet (begun ++ (x
         → (hasFeed xs ≡ false → linesAfter (begun ++ (x ∷ [])) (xs ++ input) ≡ linesAfter ((begun ++ (x ∷ [])) ++ upToFeed xs) input)
         → cond t (begun ∷ linesAfter [] (xs ++ input)) (linesAfter (begun ++ (x ∷ [])) (xs ++ input))
         ≡ linesAfter (begun ++ cond t [] (x ∷ upToFeed xs)) input
-    go true h again = let z : _≡_ {A = ℕ} 0 1 = cc in absurd (omega arith)
+    go true h again = never (cc)
     go false h again = rw append-assoc at (again h)

@@ -18,7 +18,7 @@ use text::read_keyword;
 use text::read_number;
 use text::spaced_bits;
 
-pub fn ended(line: &[u8], at: usize, form: Form) -> Form
+pub(crate) fn ended(line: &[u8], at: usize, form: Form) -> Form
     ensures { λ r. ⌜ r ≡ specs.ended (now (line .entry)) at form ⌝ }
 {
     if at == line.len() {
@@ -36,7 +36,7 @@ fn closed(line: &[u8], at: usize, form: Form) -> Form
     ended(line, e, form)
 }
 
-pub fn circuit(line: &[u8], a: usize) -> Form
+pub(crate) fn circuit(line: &[u8], a: usize) -> Form
     ensures { λ r. ⌜ r ≡ specs.circuitFrom (now (line .entry)) a ⌝ }
 {
     let NumberAt::Read { value: m, next: b } = read_number(line, a) else {
@@ -45,7 +45,7 @@ pub fn circuit(line: &[u8], a: usize) -> Form
     closed(line, b, Form::Circuit(m))
 }
 
-pub fn undo(line: &[u8], a: usize) -> Form
+pub(crate) fn undo(line: &[u8], a: usize) -> Form
     ensures { λ r. ⌜ r ≡ specs.undoFrom (now (line .entry)) a ⌝ }
 {
     let NumberAt::Read { value: k, next: b } = read_number(line, a) else {
@@ -54,7 +54,7 @@ pub fn undo(line: &[u8], a: usize) -> Form
     closed(line, b, Form::Undo(k))
 }
 
-pub fn step(line: &[u8], a: usize) -> Form
+pub(crate) fn step(line: &[u8], a: usize) -> Form
     ensures { λ r. ⌜ r ≡ specs.stepFrom (now (line .entry)) a ⌝ }
 {
     let NumberAt::Read { value: k, next: b } = read_number(line, a) else {
@@ -63,7 +63,7 @@ pub fn step(line: &[u8], a: usize) -> Form
     closed(line, b, Form::Step(k))
 }
 
-pub fn start(line: &[u8], a: usize) -> Form
+pub(crate) fn start(line: &[u8], a: usize) -> Form
     ensures { λ r. ⌜ r ≡ specs.startFrom (now (line .entry)) a ⌝ }
 {
     let BitsAt::Read { bits: x, next: b } = spaced_bits(line, a) else {
@@ -78,7 +78,7 @@ pub fn start(line: &[u8], a: usize) -> Form
     closed(line, e, Form::Start(x, y, z))
 }
 
-pub fn amp(line: &[u8], o: usize) -> Form
+pub(crate) fn amp(line: &[u8], o: usize) -> Form
     ensures { λ r. ⌜ r ≡ specs.ampFrom (now (line .entry)) o ⌝ }
 {
     let ColourAt::Read { colour, next: a } = read_colour(line, o) else {
@@ -96,7 +96,7 @@ pub fn amp(line: &[u8], o: usize) -> Form
     closed(line, e, Form::Amp(colour, x, y, z))
 }
 
-pub fn part(line: &[u8], o: usize) -> Form
+pub(crate) fn part(line: &[u8], o: usize) -> Form
     ensures { λ r. ⌜ r ≡ specs.partFrom (now (line .entry)) o ⌝ }
 {
     let ColourAt::Read { colour, next: a } = read_colour(line, o) else {
@@ -133,7 +133,7 @@ fn form_of_gate(g: Gate) -> Form
     }
 }
 
-pub fn gate_line(line: &[u8]) -> Form
+pub(crate) fn gate_line(line: &[u8]) -> Form
     ensures { λ r. ⌜ r ≡ specs.gateLine (now (line .entry)) ⌝ }
 {
     let GateAt::Read { gate, next } = first_gate(line) else {
@@ -165,7 +165,7 @@ fn either(a: bool, b: bool) -> bool
 }
 
 // "What follows that gate is read from the middle of the line on."
-pub fn layer(line: &[u8], a: usize) -> Form
+pub(crate) fn layer(line: &[u8], a: usize) -> Form
     ensures { λ r. ⌜ r ≡ specs.layerFrom 0 0 false (drop a (now (line .entry))) ⌝ }
 {
     let mut at = a;

@@ -1,7 +1,7 @@
 -- From turn to turn: what waits is written, what was read is taken, and at first there is nothing.
 use Prim.Native.Nat.{ℕ}
 use mathlib.Core.Path.{_≡_, refl, sym, _∙_}
-use mathlib.Core.Bool.{Bool, true, false}
+use mathlib.Core.Bool.{Bool, true, false, true≢false}
 use mathlib.Core.List.{List, [], _++_}
 use lib.ListN.{length, take, replicate}
 use native.Mathlib.Omega.{arith}
@@ -15,9 +15,6 @@ use Rattle.session.specs.declared.Waiting.{Waiting}
 use Rattle.session.specs.declared.Reading.{Reading}
 use Rattle.session.specs.Session.{begun, withLines, Follows, Turned, Ran}
 use Rattle.session.proofs.WhatWaits.{waits-nothing}
-
-pub never : {A : Type 0} → _≡_ {A = Bool} true false → A
-never e = let z : _≡_ {A = ℕ} 0 1 = cc in absurd (omega arith)
 
 -- Nothing changes but that what waited is written.
 pub still-follows : (input : List ℕ) (r : Reading) (w : Waiting) (b : Bool) {history out : List ℕ} → Follows input r history out → w .len ≡ 0 →
@@ -42,8 +39,8 @@ pub runs-on : {r r' : Reading} {history out history' out' chunk : List ℕ} → 
 runs-on {r' = r'} {history' = history'} {out' = out'} {chunk = chunk} ran more turned = go (r' .more) refl (turned (ran .input) (ran .goes more))
   where
     go : (b : Bool) → r' .more ≡ b → Turned (ran .input) r' history' out' chunk → Ran r' history' out'
-    go true is t = record { input = ran .input ++ take (t .count) chunk; goes = t .goes; stops = λ no s. never (sym is ∙ no) }
-    go false is t = record { input = ran .input; goes = λ yes. never (sym yes ∙ is); stops = t .stops }
+    go true is t = record { input = ran .input ++ take (t .count) chunk; goes = t .goes; stops = λ no s. absurd (true≢false (sym is ∙ no)) }
+    go false is t = record { input = ran .input; goes = λ yes. absurd (true≢false (sym yes ∙ is)); stops = t .stops }
 
 pub run-begins : {history out : List ℕ} (state : State) (pending : Pending) → state ≡ encode freshEngine → pending ≡ pendingOf [] → history ≡ replicate 4096 0 →
     length out ≡ 4096 → Ran (record { session = record { state = state; waiting = record { len = 0; sound = true } }; pending = pending; more = true }) history out
@@ -65,5 +62,5 @@ run-begins {history} {out} state pending fresh none places size =
                   waits = record { written = []; fits = omega arith; is = refl };
                 };
           };
-      stops = λ no s. never no;
+      stops = λ no s. absurd (true≢false no);
     }

@@ -1,7 +1,6 @@
 -- After a write that failed there is no further write.
-use mathlib.Core.Path.{_≡_, refl, sym, _∙_}
-use Prim.Native.Nat.{ℕ}
-use native.Mathlib.Omega.{arith}
+use mathlib.Core.Path.{refl, sym, _∙_}
+use mathlib.Core.Bool.{true≢false}
 use borrow.Author.Tests.{not-false}
 use borrow.Author.Needs.{needs}
 use Rattle.session.proofs.flush.Statement.{statement}
@@ -17,7 +16,7 @@ write-all-requires : tie.Need-write-all-requires
 write-all-requires c κs = search needs
 
 returns-2 : tie.Need-returns-2
-returns-2 c = (refl, λ f. let e = sym f ∙ not-false _ (c .before .before .if1 .left) in let z : _≡_ {A = ℕ} 0 1 = cc in absurd (omega arith))
+returns-2 c = (refl, λ f. absurd (true≢false (sym (not-false _ (c .before .before .if1 .left)) ∙ f)))
 
 pub flush-spec : {M : Type 1} → statement M
 flush-spec = tie.close (tie.spec returns front-requires write-all-requires returns-2)

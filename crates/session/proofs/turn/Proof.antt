@@ -1,8 +1,8 @@
 -- What waited is written; then the input has ended, or what was read is taken.
 use mathlib.Core.Path.{sym, _∙_}
-use mathlib.Core.Bool.{false}
+use mathlib.Core.Bool.{false, true≢false}
 use borrow.Author.Tests.{not-true}
-use Rattle.session.proofs.TurnsTaken.{never, still-follows}
+use Rattle.session.proofs.TurnsTaken.{still-follows}
 use borrow.Author.Needs.{needs}
 use Rattle.session.proofs.turn.Statement.{statement}
 use Rattle.session.proofs.turn.Tie as tie
@@ -15,7 +15,7 @@ same-length c = search needs
 
 returns : tie.Need-returns
 returns c = λ input f.
-    record { count = 0; goes = λ yes. never (sym yes); stops = λ no s. never (sym s ∙ not-true _ (c .if1 .taken)) }
+    record { count = 0; goes = λ yes. absurd (true≢false (sym yes)); stops = λ no s. absurd (true≢false (sym s ∙ not-true _ (c .if1 .taken))) }
 
 read-requires : tie.Need-read-requires
 read-requires c κs = search needs
@@ -39,7 +39,7 @@ returns-2 : tie.Need-returns-2
 returns-2 c = λ input f.
     record {
       count = 0;
-      goes = λ yes. never (sym yes);
+      goes = λ yes. absurd (true≢false (sym yes));
       stops = λ no s.
           c .before .before .before .before .take-last .ensures input
           (still-follows input _ _ false f (c .before .before .before .before .before .before .before .before .before .before .before .before .before .before .before .flush .ensures .0));
@@ -66,7 +66,7 @@ returns-3 c = λ input f.
     record {
       count = c .before .before .before .before .before .before .before .before .before .before .count .result;
       goes = λ yes. rw (c .before .before .before .before .before .front .ensures) at taken;
-      stops = λ no s. never (sym (c .before .before .before .before .take-chunk .ensures .1) ∙ no);
+      stops = λ no s. absurd (true≢false (sym (c .before .before .before .before .take-chunk .ensures .1) ∙ no));
     }
 
 pub turn-spec : {M : Type 1} → statement M
