@@ -5,3 +5,4 @@ pub mod LineTaken
 pub mod KeptLines
 pub mod ChunkTaken
 pub mod TurnsTaken
+pub mod Worked
