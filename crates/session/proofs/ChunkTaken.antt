@@ -16,7 +16,7 @@ use Rattle.framing.proofs.Clipped.{pending-joined}
 use Rattle.framing.proofs.LinesCut.{first-line, no-line-yet}
 use Rattle.session.specs.declared.Session.{Session}
 use Rattle.session.specs.declared.Reading.{Reading}
-use Rattle.session.specs.Session.{ended, Progress, begun, answerTo, withResponse, withLine, withLines, sessionOf, At, Follows}
+use Rattle.session.specs.Session.{asText, Progress, begun, answerTo, withResponse, withLine, withLines, sessionOf, At, Follows}
 
 -- ---- lines in turn
 
@@ -27,7 +27,7 @@ lines-then p (l ∷ ls) line = lines-then (withLine p l) ls line
 
 -- A line of no bytes changes nothing.
 empty-taken : (p : Progress) → withLine p [] ≡ p
-unfolding withLine withResponse answerTo response skipped ended
+unfolding withLine withResponse answerTo response skipped asText
 empty-taken p = rw append-nil
 
 -- ---- a chunk

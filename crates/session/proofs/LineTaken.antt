@@ -22,8 +22,8 @@ use Rattle.engine.proofs.Outcomes.{bytes-given}
 use Rattle.engine.proofs.TurnTaken.{listed-kept}
 use Rattle.session.specs.declared.Waiting.{Waiting}
 use Rattle.session.specs.declared.Session.{Session}
-use Rattle.session.specs.Session.{ended, laterLines, Progress, answerTo, withResponse, withLine, Waits, At}
-use Rattle.session.proofs.WhatWaits.{ended-append}
+use Rattle.session.specs.Session.{asText, laterLines, Progress, answerTo, withResponse, withLine, Waits, At}
+use Rattle.session.proofs.WhatWaits.{asText-append}
 use Rattle.session.proofs.LaterLines.{spelled-some}
 use Rattle.session.proofs.ListingSaid.{SaidThere}
 
@@ -86,7 +86,7 @@ module _ (p : Progress) (s : Session) (history out line : List ℕ) (at : At p s
       rw (sym told ∙ quiet)
 
   pub line-skipped : r .len ≡ 0 → At (withLine p line) (record { state = r .state; waiting = s .waiting }) h' out
-  unfolding after withLine withResponse answerTo ended skipped
+  unfolding after withLine withResponse answerTo asText skipped
   line-skipped z =
       let none = empty-skipped (p .engine) (p .history) line (sym length-after ∙ z) in
       record {
@@ -97,7 +97,7 @@ module _ (p : Progress) (s : Session) (history out line : List ℕ) (at : At p s
       }
 
   module _ (some : r .len ≡ 0 → ⊥) {out₁ : List ℕ} {w₁ : Waiting} {shown : List ℕ} (put : SaidThere out (s .waiting) shown out₁ w₁) (is : shown ≡ take (r .len) answer') where
-    said-first : Waits (p .said ++ ended (after .bytes ∷ [])) out₁ w₁
+    said-first : Waits (p .said ++ asText (after .bytes ∷ [])) out₁ w₁
     said-first =
         let short : length shown < length out = omega (arith, ap length is ∙ length-take (r .len) answer', at .size) in
         rw (is, bytes-after) at (put (p .said) short (at .waits))
@@ -117,17 +117,17 @@ module _ (p : Progress) (s : Session) (history out line : List ℕ) (at : At p s
         }
 
     pub line-listed : {out₂ : List ℕ} {w₂ : Waiting} → length out₁ ≡ length out → length out₂ ≡ length out₁ →
-        ((e : Engine) (h said : List ℕ) → Holds e (r .state) h → 64 < length out₁ → Waits said out₁ w₁ → Waits (said ++ ended (laterLines e)) out₂ w₂) →
+        ((e : Engine) (h said : List ℕ) → Holds e (r .state) h → 64 < length out₁ → Waits said out₁ w₁ → Waits (said ++ asText (laterLines e)) out₂ w₂) →
         At (withLine p line) (record { state = r .state; waiting = w₂ }) h' out₂
     unfolding after withLine withResponse answerTo
     line-listed kept kept₂ rest =
         let later : List (List ℕ) = laterLines (after .after) in
-        let then : p .said ++ ended (after .bytes ∷ later) ≡ (p .said ++ ended (after .bytes ∷ [])) ++ ended later =
-        ap (λ (l : List ℕ). p .said ++ l) (ended-append (after .bytes ∷ []) later) ∙ sym (append-assoc (p .said) (ended (after .bytes ∷ [])) (ended later))
+        let then : p .said ++ asText (after .bytes ∷ later) ≡ (p .said ++ asText (after .bytes ∷ [])) ++ asText later =
+        ap (λ (l : List ℕ). p .said ++ l) (asText-append (after .bytes ∷ []) later) ∙ sym (append-assoc (p .said) (asText (after .bytes ∷ [])) (asText later))
         in
         record {
           held = held-after;
           history-is = history-after;
           size = kept₂ ∙ kept ∙ at .size;
-          waits = rw (answered, then) (rest (after .after) h' (p .said ++ ended (after .bytes ∷ [])) held-after (omega (arith, kept, at .size)) said-first);
+          waits = rw (answered, then) (rest (after .after) h' (p .said ++ asText (after .bytes ∷ [])) held-after (omega (arith, kept, at .size)) said-first);
         }

@@ -15,18 +15,18 @@ use Rattle.engine.specs.State.{Holds}
 use Rattle.engine.specs.Calls.{fetchedBytes, FetchAnswered}
 use Rattle.engine.proofs.Outcomes.{bytes-fetched}
 use Rattle.session.specs.declared.Waiting.{Waiting}
-use Rattle.session.specs.Session.{ended, laterLines, Waits}
-use Rattle.session.proofs.WhatWaits.{ended-append}
+use Rattle.session.specs.Session.{asText, laterLines, Waits}
+use Rattle.session.proofs.WhatWaits.{asText-append}
 use Rattle.session.proofs.LaterLines.{line-fetched, later-some}
 
 -- What `say` promises.
 abbrev pub SaidThere : List ℕ → Waiting → List ℕ → List ℕ → Waiting → Type 0
-SaidThere out w line out' w' = (said : List ℕ) → length line < length out → Waits said out w → Waits (said ++ ended (line ∷ [])) out' w'
+SaidThere out w line out' w' = (said : List ℕ) → length line < length out → Waits said out w → Waits (said ++ asText (line ∷ [])) out' w'
 
 -- The first n of the later lines were said.
 abbrev pub Listed : State → List ℕ → Waiting → ℕ → List ℕ → Waiting → Type 0
 Listed s out₀ w₀ n out w =
-    (e : Engine) (h said : List ℕ) → Holds e s h → 64 < length out₀ → Waits said out₀ w₀ → Waits (said ++ ended (take n (laterLines e))) out w
+    (e : Engine) (h said : List ℕ) → Holds e s h → 64 < length out₀ → Waits said out₀ w₀ → Waits (said ++ asText (take n (laterLines e))) out w
 
 -- No later line is empty, so where one is missing there are no more.
 none-left : (e : Engine) (n : ℕ) → length (getD (laterLines e) n []) ≡ 0 → length (laterLines e) ≤ n
@@ -51,12 +51,12 @@ past-listed s n number is got size z e h held =
 
 module _ (s : State) (out₀ : List ℕ) (w₀ : Waiting) where
   pub none-listed : Listed s out₀ w₀ 0 out₀ w₀
-  unfolding ended
+  unfolding asText
   none-listed e h said held big w = rw append-nil w
 
   pub all-listed : (n : ℕ) {out : List ℕ} {w : Waiting} → Listed s out₀ w₀ n out w →
       (e : Engine) (h said : List ℕ) → Holds e s h → 64 < length out₀ → Waits said out₀ w₀ → length (laterLines e) ≤ n →
-      Waits (said ++ ended (laterLines e)) out w
+      Waits (said ++ asText (laterLines e)) out w
   all-listed n l e h said held big w few = rw (take-all n (laterLines e) few) at (l e h said held big w)
 
   module _ (n number : ℕ) {out out' line : List ℕ} {w w' : Waiting} {f : Fetched} {answer answer' : List ℕ} (l : Listed s out₀ w₀ n out w)
@@ -69,5 +69,5 @@ module _ (s : State) (out₀ : List ℕ) (w₀ : Waiting) where
         let bytes : line ≡ getD (laterLines e) n [] = shown ∙ bytes-fetched e number answer f answer' given ∙ there in
         let less = one-left e n (λ z. some (given .len ∙ ap length there ∙ z)) in
         let short : length line < length out = omega (arith, ap length shown ∙ length-take (f .len) answer') in
-        rw (is, take-suc (laterLines e) n [] less, ended-append (take n (laterLines e)) (getD (laterLines e) n [] ∷ []), ← bytes, ← append-assoc said (ended (take n (laterLines e))) (ended (line ∷ [])))
-        (put (said ++ ended (take n (laterLines e))) short (l e h said held big waits))
+        rw (is, take-suc (laterLines e) n [] less, asText-append (take n (laterLines e)) (getD (laterLines e) n [] ∷ []), ← bytes, ← append-assoc said (asText (take n (laterLines e))) (asText (line ∷ [])))
+        (put (said ++ asText (take n (laterLines e))) short (l e h said held big waits))

@@ -21,9 +21,9 @@ use Rattle.session.specs.declared.Reading.{Reading}
 -- ---- what is said
 
 -- Lines as they are written, each ended by a line feed.
-unfoldable pub ended : List (List ℕ) → List ℕ
-ended [] = []
-ended (l ∷ ls) = l ++ (10 ∷ ended ls)
+unfoldable pub asText : List (List ℕ) → List ℕ
+asText [] = []
+asText (l ∷ ls) = l ++ (10 ∷ asText ls)
 
 -- "`(terms N)` and then N lines, each a `ccz` or `cz` form": the lines after the first, all of them.
 unfoldable pub laterLines : Engine → List (List ℕ)
@@ -44,7 +44,7 @@ unfoldable pub answerTo : List ℕ → Response → List (List ℕ)
 answerTo line r = cond (eqb (length line) 0) [] (r .bytes ∷ laterLines (r .after))
 
 unfoldable pub withResponse : Progress → List ℕ → Response → Progress
-withResponse p line r = record { engine = r .after; history = r .history; said = p .said ++ ended (answerTo line r) }
+withResponse p line r = record { engine = r .after; history = r .history; said = p .said ++ asText (answerTo line r) }
 
 unfoldable pub withLine : Progress → List ℕ → Progress
 withLine p line = withResponse p line (response (p .engine) (p .history) line 64)

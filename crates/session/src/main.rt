@@ -8,7 +8,7 @@ ghost use lib.ListN.{length, replicate};
 ghost use Rattle.engine.specs.Engine.{Engine};
 ghost use Rattle.engine.specs.State.{Holds};
 ghost use Rattle.framing.specs.Framing.{pendingOf};
-ghost use Rattle.session.specs.Session.{ended, laterLines, Progress, withLine, Waits, At, Follows, Turned, Ran, sessionOf};
+ghost use Rattle.session.specs.Session.{asText, laterLines, Progress, withLine, Waits, At, Follows, Turned, Ran, sessionOf};
 use engine::State;
 use framing::Pending;
 use libc::STDIN_FILENO;
@@ -63,7 +63,7 @@ fn flush(out: &[u8], waiting: Waiting) -> Waiting
 // An answer line with its line feed, behind those that wait; where there is no room, these are written first.
 fn say(out: &mut [u8], waiting: Waiting, answer: &[u8]) -> Waiting
     ensures { λ r. ⌜ ((said : List ℕ) → length (now (answer .entry)) < length (now (out .entry)) → Waits said (now (out .entry)) waiting →
-        Waits (said ++ ended (now (answer .entry) ∷ [])) (now (out .exit)) r) ⌝ }
+        Waits (said ++ asText (now (answer .entry) ∷ [])) (now (out .exit)) r) ⌝ }
 {
     let at = waiting.len;
     let len = framing::put_line(out, at, answer);
@@ -82,7 +82,7 @@ fn say(out: &mut [u8], waiting: Waiting, answer: &[u8]) -> Waiting
 // The lines of a listing, fetched by number until there is none.
 fn list(state: State, out: &mut [u8], waiting: Waiting) -> Waiting
     ensures { λ r. ⌜ ((e : Engine) (h said : List ℕ) → Holds e state h → 64 < length (now (out .entry)) → Waits said (now (out .entry)) waiting →
-        Waits (said ++ ended (laterLines e)) (now (out .exit)) r) ⌝ }
+        Waits (said ++ asText (laterLines e)) (now (out .exit)) r) ⌝ }
 {
     let mut answer = [0u8; 64];
     let mut after = waiting;
