@@ -9,11 +9,33 @@ use Rattle.lines.specs.Forms.{formOf}
 use Rattle.engine.specs.declared.State.{State}
 use Rattle.engine.specs.Engine.{Loaded, Engine, freshEngine}
 use Rattle.engine.specs.State.{encode, Holds}
-use Rattle.engine.specs.Calls.{response}
+use Rattle.engine.specs.Calls.{response, Given, FetchGiven}
 use Rattle.engine.proofs.Keeping.{fresh-held, held-on}
 use Rattle.engine.proofs.Outcomes.{Outcome, silent, spoken, outcome, bytes-given, Shown, shown, bytes-fetched}
 use Rattle.runs.specs.Runs.{LineCall, FetchCall, Call, line, fetch, Kept, Run, answerOf, shownBy, sameBytes, isOk, isLeft, Log, emptyLog, logged, logFrom, logOf}
 use Rattle.runs.proofs.Following.{bookOf, Follows, loggedBy, logged-by, logged-quiet, followed}
+
+-- Calls that do, one after the other, what is given from an engine and its history.
+abbrev pub GivenFrom : Engine → List ℕ → List Call → Type 0
+GivenFrom e h [] = Unit {0}
+GivenFrom e h (line c ∷ cs) =
+    Given e h (c .line) (c .buffer) (c .reply) (c .history) (c .written)
+    × GivenFrom (response e h (c .line) (length (c .buffer)) .after) (c .history) cs
+GivenFrom e h (fetch f ∷ cs) = FetchGiven e (f .number) (f .buffer) (f .fetched) (f .written) × GivenFrom e h cs
+
+-- Calls that keep their promises do so.
+kept-given : (e : Engine) (s : State) (h : List ℕ) (calls : List Call) → Holds e s h → Kept s h calls → GivenFrom e h calls
+kept-given e s h [] held k = tt
+kept-given e s h (line c ∷ cs) held k =
+    let given = k .0 e held in (
+      given,
+      kept-given _ (c .reply .state) (c .history) cs
+          (held-on e s h held (c .line) (c .buffer) (c .reply) (c .history) (c .written) given) (k .1),
+    )
+kept-given e s h (fetch f ∷ cs) held k = (k .0 e h held, kept-given e s h cs held (k .1))
+
+pub run-given : (h : List ℕ) (calls : List Call) → Run h calls → GivenFrom freshEngine h calls
+run-given h calls r = kept-given freshEngine (encode freshEngine) h calls (fresh-held h) r
 
 pub record Moment (g : Log) (calls : List Call) : Type 0 where
   pub engine : Engine
@@ -21,12 +43,12 @@ pub record Moment (g : Log) (calls : List Call) : Type 0 where
   pub history : List ℕ
   pub held : Holds engine state history
   pub follows : Follows (engine .loaded) g
-  pub kept : Kept state history calls
+  pub given : GivenFrom engine history calls
 
-pub beginning : (h : List ℕ) (calls : List Call) → Run h calls → Moment emptyLog calls
+pub beginning : (h : List ℕ) (calls : List Call) → GivenFrom freshEngine h calls → Moment emptyLog calls
 unfolding emptyLog freshEngine bookOf
 beginning h calls r =
-    record { engine = freshEngine; state = encode freshEngine; history = h; held = fresh-held h; follows = record { book = refl; sum = tt }; kept = r }
+    record { engine = freshEngine; state = encode freshEngine; history = h; held = fresh-held h; follows = record { book = refl; sum = tt }; given = r }
 
 -- ---- one call
 
@@ -36,10 +58,10 @@ pub record Done (e : Engine) (h : List ℕ) (c : LineCall) : Type 0 where
   pub held : Holds after (c .reply .state) (c .history)
   pub outcome : Outcome (length h) (c .line) (e .loaded) (after .loaded) (answerOf c)
 
-pub done : (g : Log) (c : LineCall) (cs : List Call) (m : Moment g (line c ∷ cs)) → Done (m .engine) (m .history) c
+unfoldable pub done : (g : Log) (c : LineCall) (cs : List Call) (m : Moment g (line c ∷ cs)) → Done (m .engine) (m .history) c
 unfolding answerOf
 done g c cs m =
-    let given = m .kept .0 (m .engine) (m .held) in
+    let given = m .given .0 in
     record {
       after = response (m .engine) (m .history) (c .line) (length (c .buffer)) .after;
       held = held-on (m .engine) (m .state) (m .history) (m .held) (c .line) (c .buffer) (c .reply) (c .history) (c .written) given;
@@ -57,7 +79,7 @@ outcome-followed {l = l} g silent t = rw (logged-quiet g (formOf l) l [] refl re
 outcome-followed g (spoken v) t = followed g v t
 
 unfoldable pub next : (g : Log) (c : Call) (cs : List Call) → Moment g (c ∷ cs) → Moment (logged g c) cs
-unfolding logged
+unfolding logged done
 next g (line c) cs m =
     let d = done g c cs m in
     record {
@@ -66,16 +88,16 @@ next g (line c) cs m =
       history = c .history;
       held = d .held;
       follows = subst (Follows (d .after .loaded)) (sym (logged-by g c)) (outcome-followed g (d .outcome) (m .follows));
-      kept = m .kept .1;
+      given = m .given .1;
     }
 next g (fetch f) cs m =
-    record { engine = m .engine; state = m .state; history = m .history; held = m .held; follows = m .follows; kept = m .kept .1 }
+    record { engine = m .engine; state = m .state; history = m .history; held = m .held; follows = m .follows; given = m .given .1 }
 
 -- What a fetch shows.
 pub fetch-shown : (g : Log) (f : FetchCall) (cs : List Call) → Moment g (fetch f ∷ cs) → Shown (shownBy f)
 unfolding shownBy
 fetch-shown g f cs m =
-    rw (bytes-fetched (m .engine) (f .number) (f .buffer) (f .fetched) (f .written) (m .kept .0 (m .engine) (m .history) (m .held)))
+    rw (bytes-fetched (m .engine) (f .number) (f .buffer) (f .fetched) (f .written) (m .given .0))
     (shown (m .engine) (f .number) (length (f .buffer)))
 
 -- The moment after some of the calls.
@@ -85,6 +107,6 @@ reach [] g calls m = m
 reach (c ∷ cs) g calls m = reach cs (logged g c) calls (next g c (cs ++ calls) m)
 
 pub moment :
-    (h : List ℕ) (before calls : List Call) → Run h (before ++ calls) → Moment (logOf before) calls
+    (h : List ℕ) (before calls : List Call) → GivenFrom freshEngine h (before ++ calls) → Moment (logOf before) calls
 unfolding logOf
 moment h before calls r = reach before emptyLog calls (beginning h (before ++ calls) r)

@@ -11,13 +11,13 @@ use Rattle.answers.specs.declared.Answer.{Answer}
 use Rattle.answers.specs.declared.Answer.the-variants as Answer
 use Rattle.answers.specs.Answers.{bytesOf}
 use Rattle.answers.proofs.Answers.{answers-unique}
-use Rattle.engine.specs.Engine.{Circuit, Purpose, amplitude, readout, OpenSum, running, Loaded, present, Sound}
+use Rattle.engine.specs.Engine.{Circuit, Purpose, amplitude, readout, OpenSum, running, Loaded, present, Sound, freshEngine}
 use Rattle.engine.proofs.Outcomes.{Outcome, silent, spoken, Shown, nothing, term}
 use Rattle.runs.specs.Runs.{LineCall, Call, line, fetch, Run, answerOf, Part, last, logOf, Log, holds, allZeros, Answers, Opening, Amplitude, SoundRun}
 use Rattle.runs.proofs.Following.{enteredOf, PartNoted, AmpNoted, NotedFor, Follows}
 use Rattle.runs.proofs.Ending.{ReadoutEnd, counted, AmplitudeEnd, summed, readout-end, amplitude-end}
 use Rattle.runs.proofs.Counts.{Counted, noted-count, counted-exact, counted-total, noted-amplitude}
-use Rattle.runs.proofs.Moments.{Moment, done, fetch-shown, moment}
+use Rattle.runs.proofs.Moments.{GivenFrom, run-given, Moment, done, fetch-shown, moment}
 use Rattle.runs.proofs.Steps.{steps-end}
 
 -- ---- an answer that is a total ended a sum
@@ -79,9 +79,9 @@ amplitudeOf before (summed c o h a b) f v =
 
 -- ---- the theorem
 
-module _ (h : List ℕ) (calls : List Call) (run : Run h calls) where
+module _ (h : List ℕ) (calls : List Call) (run : GivenFrom freshEngine h calls) where
   at : (before rest : List Call) → calls ≡ before ++ rest → Moment (logOf before) rest
-  at before rest e = moment h before rest (subst (Run h) e run)
+  at before rest e = moment h before rest (subst (GivenFrom freshEngine h) e run)
 
   readout-at :
       (before : List Call) (c : LineCall) (after : List Call) (t n : ℕ) (e : calls ≡ before ++ (line c ∷ after)) →
@@ -96,8 +96,9 @@ module _ (h : List ℕ) (calls : List Call) (run : Run h calls) where
       let end = readout-at (a .before) (a .call) (a .after) t n (a .place) (a .answer) in
       rw (a .colour, a .first, a .second) at (counts (logOf (a .before)) (a .part) m gates end (now .follows) (now .held .sound) (a .latest) (a .book))
 
-pub runs-sound : (h : List ℕ) (calls : List Call) → Run h calls → SoundRun calls
-runs-sound h calls run =
+-- Calls that do what is given from a fresh engine.
+pub given-sound : (h : List ℕ) (calls : List Call) → GivenFrom freshEngine h calls → SoundRun calls
+given-sound h calls run =
     record {
       opened = λ before c after t n e a.
           opening before (readout-at h calls run before c after t n e a) (at h calls run before (line c ∷ after) e .follows);
@@ -111,3 +112,7 @@ runs-sound h calls run =
           let now = at h calls run before (line c ∷ after) e in
           amplitudeOf before (outcome-amplitude s n (done (logOf before) c after now .outcome) a) (now .follows) (now .held .sound);
     }
+
+-- Calls that keep the promises of the engine's public calls.
+pub runs-sound : (h : List ℕ) (calls : List Call) → Run h calls → SoundRun calls
+runs-sound h calls run = given-sound h calls (run-given h calls run)

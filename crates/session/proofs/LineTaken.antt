@@ -1,22 +1,16 @@
 -- A line taken by the engine: its state and history are those after the line, and its answer is said.
-use Prim.Native.Nat.{ℕ, _≤_, _<_}
+use Prim.Native.Nat.{ℕ, _<_}
 use native.Mathlib.Omega.{arith}
-use mathlib.Core.Path.{_≡_, refl, sym, ap, _∙_}
-use mathlib.Core.Bool.{Bool, true, false, cond}
+use mathlib.Core.Path.{_≡_, sym, ap, _∙_}
+use mathlib.Core.Bool.{false}
 use mathlib.Core.List.{List, [], _∷_, _++_, append-nil, append-assoc}
 use lib.Dec.{eqb}
 use lib.ListN.{length, take, length-take}
-use Rattle.answers.specs.declared.Answer.{Answer}
-use Rattle.answers.specs.declared.Answer.the-variants.{Ok, Left, Amplitude, Readout, Terms, Listed as ListedTerm, Refused}
-use Rattle.answers.specs.Answers.{bytesOf}
 use Rattle.engine.specs.declared.State.{State}
 use Rattle.engine.specs.declared.Reply.{Reply}
 use Rattle.engine.specs.Engine.{Engine}
-use Rattle.lines.specs.Forms.{formOf}
-use Rattle.refusals.specs.Refusals.{lineGates}
-use Rattle.engine.specs.Response.{turnOf}
 use Rattle.engine.specs.State.{Holds, encode}
-use Rattle.engine.specs.Calls.{Response, answering, skipped, response, Given, Answered}
+use Rattle.engine.specs.Calls.{Response, skipped, response, Given, Answered}
 use Rattle.engine.proofs.Keeping.{held-on}
 use Rattle.engine.proofs.Outcomes.{bytes-given}
 use Rattle.engine.proofs.TurnTaken.{listed-kept}
@@ -24,36 +18,8 @@ use Rattle.session.specs.declared.Waiting.{Waiting}
 use Rattle.session.specs.declared.Session.{Session}
 use Rattle.session.specs.Session.{asText, laterLines, Progress, answerTo, withResponse, withLine, Waits, At}
 use Rattle.session.proofs.WhatWaits.{asText-append}
-use Rattle.session.proofs.LaterLines.{spelled-some}
+use Rattle.session.proofs.AnswerBytes.{unanswered, has-bytes}
 use Rattle.session.proofs.ListingSaid.{SaidThere}
-
--- ---- only a line of no bytes has no answer
-
-bytes-some : (a : Answer) → 1 ≤ length (bytesOf a)
-unfolding bytesOf
-bytes-some Ok = omega arith
-bytes-some (Left l) = omega arith
-bytes-some (Amplitude s n) = omega arith
-bytes-some (Readout t n) = omega arith
-bytes-some (Terms n) = omega arith
-bytes-some (ListedTerm g) = spelled-some g
-bytes-some (Refused e) = omega arith
-
-empty-skipped : (e : Engine) (h line : List ℕ) → length (response e h line 64 .bytes) ≡ 0 → (eqb (length line) 0 ≡ true) × (response e h line 64 ≡ skipped e h)
-unfolding response answering
-empty-skipped e h line = go (eqb (length line) 0)
-  where
-    go : (b : Bool) → length (cond b (skipped e h) (answering e h line) .bytes) ≡ 0 → (b ≡ true) × (cond b (skipped e h) (answering e h line) ≡ skipped e h)
-    go true z = (refl, refl)
-    go false z = absurd (omega (arith, bytes-some (turnOf (e .loaded) (length h) (formOf line) (lineGates (formOf line) line) .answer)))
-
-some-answered : (e : Engine) (h line : List ℕ) → (length (response e h line 64 .bytes) ≡ 0 → ⊥) → eqb (length line) 0 ≡ false
-unfolding response skipped
-some-answered e h line = go (eqb (length line) 0)
-  where
-    go : (b : Bool) → (length (cond b (skipped e h) (answering e h line) .bytes) ≡ 0 → ⊥) → b ≡ false
-    go true some = absurd (some refl)
-    go false some = refl
 
 module _ (p : Progress) (s : Session) (history out line : List ℕ) (at : At p s history out) {r : Reply} {h' answer answer' : List ℕ}
     (got : Answered (s .state) history line answer r h' answer') (size : length answer ≡ 64) (size' : length answer' ≡ 64) where
@@ -88,12 +54,12 @@ module _ (p : Progress) (s : Session) (history out line : List ℕ) (at : At p s
   pub line-skipped : r .len ≡ 0 → At (withLine p line) (record { state = r .state; waiting = s .waiting }) h' out
   unfolding after withLine withResponse answerTo asText skipped
   line-skipped z =
-      let none = empty-skipped (p .engine) (p .history) line (sym length-after ∙ z) in
+      let none = unanswered (p .engine) (p .history) line (sym length-after ∙ z) in
       record {
         held = held-after;
         history-is = history-after;
         size = at .size;
-        waits = rw (none .0, append-nil) (at .waits);
+        waits = rw (none, append-nil) (at .waits);
       }
 
   module _ (some : r .len ≡ 0 → ⊥) {out₁ : List ℕ} {w₁ : Waiting} {shown : List ℕ} (put : SaidThere out (s .waiting) shown out₁ w₁) (is : shown ≡ take (r .len) answer') where
@@ -104,7 +70,7 @@ module _ (p : Progress) (s : Session) (history out line : List ℕ) (at : At p s
 
     answered : eqb (length line) 0 ≡ false
     unfolding after
-    answered = some-answered (p .engine) (p .history) line (λ z. some (length-after ∙ z))
+    answered = has-bytes (p .engine) (p .history) line (λ z. some (length-after ∙ z))
 
     pub line-said : r .state .listed ≡ false → length out₁ ≡ length out → At (withLine p line) (record { state = r .state; waiting = w₁ }) h' out₁
     unfolding after withLine withResponse answerTo
