@@ -18,3 +18,4 @@ pub mod TurnAnswers
 pub mod CallLaws
 pub mod TermsListed
 pub mod TakenBack
+pub mod RefusedLines

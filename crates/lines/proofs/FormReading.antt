@@ -177,12 +177,22 @@ form-cases P l refused read = go (ltb 1024 (length l)) (allAllowed l)
     go false true = shape (spelled-read l)
     go false false = refused 3
 
-shape-refused : (l : List ℕ) (n : ℕ) → shapeOf l ≡ Form.Refused n → 4 ≤ n
+shape-refused : (l : List ℕ) (n : ℕ) → shapeOf l ≡ Form.Refused n → (4 ≤ n) × (n ≤ 5)
 shape-refused l n h = go (spelled-read l)
   where
-    go : (shapeOf l ≡ Form.Refused 4) ⊎ Spelling l → 4 ≤ n
-    go (inl e) = let z : n ≡ 4 = cc in omega arith
-    go (inr s) = let z = read-refused (s .typed) n (sym (shape-spelled l s) ∙ h) in omega arith
+    go : (shapeOf l ≡ Form.Refused 4) ⊎ Spelling l → (4 ≤ n) × (n ≤ 5)
+    go (inl e) = let z : n ≡ 4 = cc in (omega arith, omega arith)
+    go (inr s) = let z = read-refused (s .typed) n (sym (shape-spelled l s) ∙ h) in (omega arith, omega arith)
+
+-- The places Line and Form have the numbers 2 to 5.
+pub refused-among : (l : List ℕ) (n : ℕ) → formOf l ≡ Form.Refused n → (2 ≤ n) × (n ≤ 5)
+unfolding formOf
+refused-among l n = go (ltb 1024 (length l)) (allAllowed l)
+  where
+    go : (long allowed : Bool) → cond long (Form.Refused 2) (cond allowed (shapeOf l) (Form.Refused 3)) ≡ Form.Refused n → (2 ≤ n) × (n ≤ 5)
+    go true allowed h = let z : n ≡ 2 = cc in (omega arith, omega arith)
+    go false true h = let z = shape-refused l n h in (omega arith, omega arith)
+    go false false h = let z : n ≡ 3 = cc in (omega arith, omega arith)
 
 -- Refusal 2: "longer than 1,024 bytes, line feed not counted"
 pub refused-2 : (l : List ℕ) → (formOf l ≡ Form.Refused 2) ↔ (1024 < length l)
