@@ -126,8 +126,8 @@ unfolding cellTerms cellWord
 cell-at f n i j mask p q r hi hj =
     ap₂ (λ (a b : ℕ). map (term a b) (marked 17 (bitAt (bitAnd (getD (wordsOf f) (17 * a + b) 0) (cellMask n))))) p q
     ∙ ap₂ (λ (w x : ℕ). map (term i j) (marked 17 (bitAt (bitAnd w x)))) (word-at f i j hi hj) r
-    ∙ ap (map (term i j)) (marked-cong 17 (bitAt (bitAnd (wordOf 17 g) mask)) (λ k. g k && bitAt mask k)
-    (λ k h. bitAt-and (wordOf 17 g) mask k ∙ ap (λ b. b && bitAt mask k) (bitAt-wordOf-lt 17 g k h)))
+    ∙ ap (map (term i j)) (marked-cong 17 (bitAt (bitAnd (wordOf 32 g) mask)) (λ k. g k && bitAt mask k)
+    (λ k h. bitAt-and (wordOf 32 g) mask k ∙ ap (λ b. b && bitAt mask k) (bitAt-wordOf-lt 32 g k (omega arith))))
   where
     g : ℕ → Bool
     g k = f (term i j k)

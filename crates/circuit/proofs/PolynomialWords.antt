@@ -14,24 +14,24 @@ use borrow.Author.Tests.{eqb-true, eqb-false, eq-eqb, ne-eqb, lt-ltb}
 use Rattle.gf2.specs.Strings.{_⊕_}
 use Rattle.gf2.specs.Words.{bitOf, odd, bitAt, toggledAt, wordOf}
 use Rattle.gf2.proofs.Tables.{length-tabulate, getD-tabulate, tabulate-unique}
-use Rattle.gf2.proofs.WordBits.{bitAt-wordOf-lt, wordOf-cong, wordOf-xor, wordOf-none, wordOf-and, wordOf-one}
+use Rattle.gf2.proofs.WordBits.{bitAt-wordOf-lt, wordOf-bits, wordOf-cong, wordOf-xor, wordOf-none, wordOf-and, wordOf-one}
 use Rattle.circuit.specs.declared.Colour.the-variants.{Red, Blue, Green}
 use Rattle.circuit.specs.Colours.{the, first, second, join, put}
 use Rattle.circuit.specs.Polynomial.{Polynomial, term, sameTerm, empty, toggled, substituted}
-use Rattle.circuit.specs.Words.{wordsOf}
+use Rattle.circuit.specs.Words.{wordsOf, heldBy}
 use Rattle.circuit.proofs.Stores.{stored, length-stored, stored-at, stored-added}
 
 -- ---- words and terms
 
 pub length-words : (f : Polynomial) → length (wordsOf f) ≡ 289
 unfolding wordsOf
-length-words f = length-tabulate 289 (λ w. wordOf 17 (λ k. f (term (w / 17) (w % 17) k)))
+length-words f = length-tabulate 289 (λ w. wordOf 32 (λ k. f (term (w / 17) (w % 17) k)))
 
-pub word-at : (f : Polynomial) (i j : ℕ) → i ≤ 16 → j ≤ 16 → getD (wordsOf f) (17 * i + j) 0 ≡ wordOf 17 (λ k. f (term i j k))
+pub word-at : (f : Polynomial) (i j : ℕ) → i ≤ 16 → j ≤ 16 → getD (wordsOf f) (17 * i + j) 0 ≡ wordOf 32 (λ k. f (term i j k))
 unfolding wordsOf
 word-at f i j hi hj =
-    getD-tabulate 289 (λ w. wordOf 17 (λ k. f (term (w / 17) (w % 17) k))) (17 * i + j) 0 (omega arith)
-    ∙ ap₂ (λ (a b : ℕ). wordOf 17 (λ k. f (term a b k))) row column
+    getD-tabulate 289 (λ w. wordOf 32 (λ k. f (term (w / 17) (w % 17) k))) (17 * i + j) 0 (omega arith)
+    ∙ ap₂ (λ (a b : ℕ). wordOf 32 (λ k. f (term a b k))) row column
   where
     row : (17 * i + j) / 17 ≡ i
     row = omega arith
@@ -40,34 +40,39 @@ word-at f i j hi hj =
     column = omega arith
 
 pub bit-at : (f : Polynomial) (i j k : ℕ) → i ≤ 16 → j ≤ 16 → k ≤ 16 → bitAt (getD (wordsOf f) (17 * i + j) 0) k ≡ f (term i j k)
-bit-at f i j k hi hj hk = ap (λ (w : ℕ). bitAt w k) (word-at f i j hi hj) ∙ bitAt-wordOf-lt 17 (λ n. f (term i j n)) k (omega arith)
+bit-at f i j k hi hj hk = ap (λ (w : ℕ). bitAt w k) (word-at f i j hi hj) ∙ bitAt-wordOf-lt 32 (λ n. f (term i j n)) k (omega arith)
 
 -- Words that are made from the terms of f are the words of f.
 pub words-unique : (f : Polynomial) (ws : List ℕ) → length ws ≡ 289
-    → ((i j : ℕ) → i ≤ 16 → j ≤ 16 → getD ws (17 * i + j) 0 ≡ wordOf 17 (λ k. f (term i j k))) → ws ≡ wordsOf f
+    → ((i j : ℕ) → i ≤ 16 → j ≤ 16 → getD ws (17 * i + j) 0 ≡ wordOf 32 (λ k. f (term i j k))) → ws ≡ wordsOf f
 unfolding wordsOf
 words-unique f ws e h =
-    tabulate-unique 289 (λ w. wordOf 17 (λ k. f (term (w / 17) (w % 17) k))) ws 0 e
+    tabulate-unique 289 (λ w. wordOf 32 (λ k. f (term (w / 17) (w % 17) k))) ws 0 e
     (λ n l. ap (λ (x : ℕ). getD ws x 0) (split n) ∙ h (n / 17) (n % 17) (omega arith) (omega arith))
   where
     split : (n : ℕ) → n ≡ 17 * (n / 17) + n % 17
     split n = omega arith
 
+-- Any words hold a polynomial: what a contract says of the words of a polynomial it says of all words.
+pub words-held : (ws : List ℕ) → length ws ≡ 289 → ((n : ℕ) → getD ws n 0 < 2 ^ 32) → ws ≡ wordsOf (heldBy ws)
+unfolding heldBy term
+words-held ws e small = words-unique (heldBy ws) ws e (λ i j hi hj. sym (wordOf-bits 32 (getD ws (17 * i + j) 0) (small (17 * i + j))))
+
 -- Words with the terms of g added are the words of both.
 pub words-added : (f g : Polynomial) (ws : List ℕ) → length ws ≡ 289
-    → ((i j : ℕ) → i ≤ 16 → j ≤ 16 → getD ws (17 * i + j) 0 ≡ bitXor (getD (wordsOf f) (17 * i + j) 0) (wordOf 17 (λ k. g (term i j k))))
+    → ((i j : ℕ) → i ≤ 16 → j ≤ 16 → getD ws (17 * i + j) 0 ≡ bitXor (getD (wordsOf f) (17 * i + j) 0) (wordOf 32 (λ k. g (term i j k))))
     → ws ≡ wordsOf (λ h. f h ⊕ g h)
 words-added f g ws e h =
     words-unique (λ h. f h ⊕ g h) ws e
     (λ i j hi hj.
-    h i j hi hj ∙ ap (λ (w : ℕ). bitXor w (wordOf 17 (λ k. g (term i j k)))) (word-at f i j hi hj)
-    ∙ wordOf-xor 17 (λ k. f (term i j k)) (λ k. g (term i j k)))
+    h i j hi hj ∙ ap (λ (w : ℕ). bitXor w (wordOf 32 (λ k. g (term i j k)))) (word-at f i j hi hj)
+    ∙ wordOf-xor 32 (λ k. f (term i j k)) (λ k. g (term i j k)))
 
 pub empty-words : replicate 289 0 ≡ wordsOf empty
 unfolding empty
 empty-words =
     words-unique empty (replicate 289 0) (length-replicate {A = ℕ} 289 0)
-    (λ i j hi hj. getD-replicate 289 (17 * i + j) 0 0 (omega arith) ∙ sym (wordOf-none 17))
+    (λ i j hi hj. getD-replicate 289 (17 * i + j) 0 0 (omega arith) ∙ sym (wordOf-none 32))
 
 -- ---- one term
 
@@ -106,11 +111,11 @@ toggled-words f i j k hi hj hk =
     ws : List ℕ
     ws = wordsOf f
 
-    mask : (a b : ℕ) → b ≤ 16 → cond (eqb (17 * a + b) (17 * i + j)) (2 ^ k) 0 ≡ wordOf 17 (λ n. eqb a i && (eqb b j && eqb n k))
+    mask : (a b : ℕ) → b ≤ 16 → cond (eqb (17 * a + b) (17 * i + j)) (2 ^ k) 0 ≡ wordOf 32 (λ n. eqb a i && (eqb b j && eqb n k))
     mask a b hb =
-        ap₂ (λ (x : Bool) (w : ℕ). cond x w 0) (eqb-place a b i j hb hj) (sym (wordOf-one 17 k (omega arith)))
-        ∙ sym (wordOf-and 17 (eqb a i && eqb b j) (λ n. eqb n k))
-        ∙ wordOf-cong 17 (λ n. (eqb a i && eqb b j) && eqb n k) (λ n. eqb a i && (eqb b j && eqb n k))
+        ap₂ (λ (x : Bool) (w : ℕ). cond x w 0) (eqb-place a b i j hb hj) (sym (wordOf-one 32 k (omega arith)))
+        ∙ sym (wordOf-and 32 (eqb a i && eqb b j) (λ n. eqb n k))
+        ∙ wordOf-cong 32 (λ n. (eqb a i && eqb b j) && eqb n k) (λ n. eqb a i && (eqb b j && eqb n k))
         (λ n l. and-assoc (eqb a i) (eqb b j) (eqb n k))
 
 -- ---- a CNOT, by the loop that adds its terms
@@ -129,7 +134,7 @@ red-words f c t hc ht =
     17 j (17 * i + j) (eqb i c) (omega arith) (omega (arith, length-words f))
     (λ e. ap (λ (x : ℕ). 17 * x + j) (eqb-true i c e)) (λ e k l q. eqb-false i c e (omega arith))
     ∙ ap (bitXor (getD ws (17 * i + j) 0))
-    (ap (λ (w : ℕ). cond (eqb i c) w 0) (word-at f t j ht hj) ∙ sym (wordOf-and 17 (eqb i c) (λ k. f (term t j k)))))
+    (ap (λ (w : ℕ). cond (eqb i c) w 0) (word-at f t j ht hj) ∙ sym (wordOf-and 32 (eqb i c) (λ k. f (term t j k)))))
   where
     ws : List ℕ
     ws = wordsOf f
@@ -148,7 +153,7 @@ blue-words f c t hc ht =
     17 i (17 * i + j) (eqb j c) (omega arith) (omega (arith, length-words f))
     (λ e. ap (λ (x : ℕ). 17 * i + x) (eqb-true j c e)) (λ e k l q. eqb-false j c e (omega arith))
     ∙ ap (bitXor (getD ws (17 * i + j) 0))
-    (ap (λ (w : ℕ). cond (eqb j c) w 0) (word-at f i t hi ht) ∙ sym (wordOf-and 17 (eqb j c) (λ k. f (term i t k)))))
+    (ap (λ (w : ℕ). cond (eqb j c) w 0) (word-at f i t hi ht) ∙ sym (wordOf-and 32 (eqb j c) (λ k. f (term i t k)))))
   where
     ws : List ℕ
     ws = wordsOf f
@@ -170,11 +175,11 @@ green-words f c t hc ht =
     ws : List ℕ
     ws = wordsOf f
 
-    mask : (i j : ℕ) → i ≤ 16 → j ≤ 16 → cond (bitAt (getD ws (17 * i + j) 0) t) (2 ^ c) 0 ≡ wordOf 17 (λ k. eqb k c && f (term i j t))
+    mask : (i j : ℕ) → i ≤ 16 → j ≤ 16 → cond (bitAt (getD ws (17 * i + j) 0) t) (2 ^ c) 0 ≡ wordOf 32 (λ k. eqb k c && f (term i j t))
     mask i j hi hj =
-        ap₂ (λ (b : Bool) (w : ℕ). cond b w 0) (bit-at f i j t hi hj ht) (sym (wordOf-one 17 c (omega arith)))
-        ∙ sym (wordOf-and 17 (f (term i j t)) (λ k. eqb k c))
-        ∙ wordOf-cong 17 (λ k. f (term i j t) && eqb k c) (λ k. eqb k c && f (term i j t)) (λ k l. and-comm (f (term i j t)) (eqb k c))
+        ap₂ (λ (b : Bool) (w : ℕ). cond b w 0) (bit-at f i j t hi hj ht) (sym (wordOf-one 32 c (omega arith)))
+        ∙ sym (wordOf-and 32 (f (term i j t)) (λ k. eqb k c))
+        ∙ wordOf-cong 32 (λ k. f (term i j t) && eqb k c) (λ k. eqb k c && f (term i j t)) (λ k l. and-comm (f (term i j t)) (eqb k c))
 
 -- A bit taken out of a word and put at place c.
 pub moved-bit : (w t c : ℕ) → c ≤ 16 → bitAnd (w / 2 ^ t) 1 * 2 ^ c % 2 ^ 32 ≡ cond (bitAt w t) (2 ^ c) 0

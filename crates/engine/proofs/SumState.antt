@@ -2,7 +2,7 @@
 use mathlib.Core.Path.{_≡_, refl, sym, ap, _∙_}
 use mathlib.Core.Bool.{Bool, cond}
 use mathlib.Core.List.{List}
-use Prim.Native.Nat.{ℕ, _^_}
+use Prim.Native.Nat.{ℕ, _^_, _≤_}
 use lib.Bits.{bitXor}
 use lib.Dec.{leb}
 use lib.IntN.{pos}
@@ -123,14 +123,16 @@ begun-holds m o readout h = rw h
 abbrev pub TableOf : State → Colour → ℕ → ℕ → ℕ → List ℕ → Type 0
 TableOf s C r b g t =
     (f : Polynomial) → s .polynomial ≡ wordsOf f →
-    t ≡ tableOf C (withOutput (strings (s .m) (bitXor r (s .start .red)) (bitXor b (s .start .blue)) (bitXor g (s .start .green))) f)
+    t
+    ≡ tableOf C
+    (cond (leb (s .m) 16) (withOutput (strings (s .m) (bitXor r (s .start .red)) (bitXor b (s .start .blue)) (bitXor g (s .start .green))) f) f)
 
 pub opened-holds :
     (s : State) (k : Kind) (C : Colour) (r b g : ℕ) (t : List ℕ) → TableOf s C r b g t →
-    (c : Circuit) (o : Opened) (l : Bool) (p : Purpose) → s ≡ encodeLoaded (present c o) l → k ≡ kindOf p →
+    (c : Circuit) (o : Opened) (l : Bool) (p : Purpose) → c .m ≤ 16 → s ≡ encodeLoaded (present c o) l → k ≡ kindOf p →
     replaced s (begun k t) ≡ encodeLoaded (opening c p C (record { red = r; blue = b; green = g }) .after) l
 unfolding opening encodeSum encodeLoaded numbersOf outputWith tableFor outputOf
-opened-holds s k C r b g t made c o l p h e =
+opened-holds s k C r b g t made c o l p small h e =
     replaced-holds s (begun k t) c o (running sum) l h
     (ap (λ (x : Kind). begun x t) e ∙ ap (begun (kindOf p)) table ∙ begun-holds (c .m) sum p refl)
   where
@@ -147,8 +149,10 @@ opened-holds s k C r b g t made c o l p h e =
     seen : State → List ℕ
     seen x =
         tableOf C
+        (cond (leb (x .m) 16)
         (withOutput (strings (x .m) (bitXor r (x .start .red)) (bitXor b (x .start .blue)) (bitXor g (x .start .green)))
+        (polynomial (c .gates)))
         (polynomial (c .gates)))
 
     table : t ≡ tableFor (c .m) sum
-    table = made (polynomial (c .gates)) (ap (λ (x : State). x .polynomial) h) ∙ ap seen h
+    table = rw (le-leb (c .m) 16 small) at (made (polynomial (c .gates)) (ap (λ (x : State). x .polynomial) h) ∙ ap seen h)

@@ -15,7 +15,7 @@ use circuit::Colour;
 
 // The state with a sum opened for an output string, the start's ones added. Its table is made here, once.
 fn open_sum(state: State, kind: Kind, colour: Colour, r: u32, b: u32, g: u32) -> State
-    ensures { λ s. ⌜ ((c : Circuit) (o : Opened) (l : Bool) (p : Purpose) → state ≡ encodeLoaded (present c o) l → kind ≡ kindOf p →
+    ensures { λ s. ⌜ ((c : Circuit) (o : Opened) (l : Bool) (p : Purpose) → c .m ≤ 16 → state ≡ encodeLoaded (present c o) l → kind ≡ kindOf p →
         s ≡ encodeLoaded (opening c p colour (record { red = r; blue = b; green = g }) .after) l) ⌝ }
 {
     let start = state.start;

@@ -75,10 +75,10 @@ added-next C s f p h =
 
 -- ---- their words
 
-words-cong : (f g : Polynomial) → ((i j k : ℕ) → i ≤ 16 → j ≤ 16 → k ≤ 16 → f (term i j k) ≡ g (term i j k)) → wordsOf f ≡ wordsOf g
+words-cong : (f g : Polynomial) → ((i j k : ℕ) → i ≤ 16 → j ≤ 16 → k ≤ 31 → f (term i j k) ≡ g (term i j k)) → wordsOf f ≡ wordsOf g
 words-cong f g e =
     words-unique g (wordsOf f) (length-words f)
-    (λ i j hi hj. word-at f i j hi hj ∙ wordOf-cong 17 (λ k. f (term i j k)) (λ k. g (term i j k)) (λ k l. e i j k hi hj (omega arith)))
+    (λ i j hi hj. word-at f i j hi hj ∙ wordOf-cong 32 (λ k. f (term i j k)) (λ k. g (term i j k)) (λ k l. e i j k hi hj (omega arith)))
 
 -- The indices of a position's term are those of a word and a bit.
 alone-within : (C : Colour) (p : ℕ) → p ≤ 16 → (join C p 0 0 .red ≤ 16) × (join C p 0 0 .blue ≤ 16) × (join C p 0 0 .green ≤ 16)
@@ -127,21 +127,15 @@ words-begun C s f = words-cong f (addedBelow 1 C s f) (λ i j k hi hj hk. sym (h
         ∙ ap (λ (t : Bool). f h ⊕ (eqb (first C h) 0 && t)) (and-false (eqb (second C h) 0))
         ∙ ap (λ (t : Bool). f h ⊕ t) (and-false (eqb (first C h) 0)) ∙ ⊕-false (f h)
 
-index-within : (C : Colour) (i j k : ℕ) → i ≤ 16 → j ≤ 16 → k ≤ 16 → the C (term i j k) ≤ 16
-unfolding the term
-index-within Red i j k hi hj hk = hi
-index-within Blue i j k hi hj hk = hj
-index-within Green i j k hi hj hk = hk
-
--- All positions that a term of the words can hold are below n, or all that the string has.
-pub words-ended : (C : Colour) (m v n : ℕ) (f : Polynomial) → ((a : ℕ) → a ≤ 16 → n ≤ a → m < a) → wordsOf (addedBelow n C (highFirst m v) f) ≡ wordsOf (added C (highFirst m v) f)
+-- All positions that the string has are below n.
+pub words-ended : (C : Colour) (m v n : ℕ) (f : Polynomial) → ((a : ℕ) → n ≤ a → m < a) → wordsOf (addedBelow n C (highFirst m v) f) ≡ wordsOf (added C (highFirst m v) f)
 unfolding addedBelow added
 words-ended C m v n f h =
     words-cong (addedBelow n C (highFirst m v) f) (added C (highFirst m v) f)
     (λ i j k hi hj hk.
     ap (λ (t : Bool). f (term i j k) ⊕ (eqb (first C (term i j k)) 0 && (eqb (second C (term i j k)) 0 && t)))
-    (whole (the C (term i j k)) (index-within C i j k hi hj hk) (ltb (the C (term i j k)) n) refl))
+    (whole (the C (term i j k)) (ltb (the C (term i j k)) n) refl))
   where
-    whole : (a : ℕ) → a ≤ 16 → (b : Bool) → ltb a n ≡ b → ltb a n && bit a (false ∷ highFirst m v) ≡ bit a (false ∷ highFirst m v)
-    whole a l true e = ap (λ (t : Bool). t && bit a (false ∷ highFirst m v)) e
-    whole a l false e = ap (λ (t : Bool). t && bit a (false ∷ highFirst m v)) e ∙ sym (position-past m v a (h a l (ltb-false a n e)))
+    whole : (a : ℕ) (b : Bool) → ltb a n ≡ b → ltb a n && bit a (false ∷ highFirst m v) ≡ bit a (false ∷ highFirst m v)
+    whole a true e = ap (λ (t : Bool). t && bit a (false ∷ highFirst m v)) e
+    whole a false e = ap (λ (t : Bool). t && bit a (false ∷ highFirst m v)) e ∙ sym (position-past m v a (h a (ltb-false a n e)))

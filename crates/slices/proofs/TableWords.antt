@@ -15,7 +15,7 @@ use borrow.Author.Tests.{eqb-true, eqb-false, lt-ltb}
 use Rattle.gf2.specs.Strings.{_⊕_}
 use Rattle.gf2.specs.Words.{bitOf, odd, bitAt, wordOf, tabulate}
 use Rattle.gf2.proofs.Tables.{length-tabulate, getD-tabulate, tabulate-cong, tabulate-unique}
-use Rattle.gf2.proofs.WordBits.{bitAt-wordOf-lt, wordOf-lt, wordOf-cong, wordOf-bits, wordOf-xor, bitAt-half}
+use Rattle.gf2.proofs.WordBits.{bitAt-wordOf-lt, wordOf-lt, wordOf-cong, wordOf-bits, wordOf-xor, bitAt-half, bitAt-mod}
 use Rattle.circuit.specs.declared.Colour.{Colour}
 use Rattle.circuit.specs.declared.Colour.the-variants.{Red, Blue, Green}
 use Rattle.circuit.specs.Colours.{join}
@@ -171,11 +171,11 @@ unfolding bitAt odd
 lowest-weight w n = digit-weight (w % 2) n (omega arith) ∙ ap (λ (x : ℕ). cond (bitOf (x % 2)) n 0) (sym (div-one w))
 
 -- A word with its lowest bit put last is the row of its bits.
-pub rotated-row : (w : ℕ) → w < 2 ^ 17 → bitOr (w / 2) (bitAnd w 1 * 2 ^ 16 % 2 ^ 32) ≡ rowOf (bitAt w)
+pub rotated-row : (w : ℕ) → bitOr (bitAnd (w / 2) 65535) (bitAnd w 1 * 2 ^ 16 % 2 ^ 32) ≡ rowOf (bitAt w)
 unfolding rowOf
-rotated-row w h =
-    ap (bitOr (w / 2)) (ap (λ (x : ℕ). x * 2 ^ 16 % 2 ^ 32) (and-mask w 1) ∙ shl-exact {a = w % 2} 1 16 32 (omega arith) (omega arith))
-    ∙ or-shifted-r (w % 2) 16 (w / 2) (omega arith)
+rotated-row w =
+    ap₂ bitOr (and-mask (w / 2) 16) (ap (λ (x : ℕ). x * 2 ^ 16 % 2 ^ 32) (and-mask w 1) ∙ shl-exact {a = w % 2} 1 16 32 (omega arith) (omega arith))
+    ∙ or-shifted-r (w % 2) 16 (w / 2 % 2 ^ 16) (omega arith)
     ∙ ap₂ _+_ (lowest-weight w (2 ^ 16)) (sym upper)
     ∙ add-comm (cond (bitAt w 0) (2 ^ 16) 0) (wordOf 16 (λ j. bitAt w ((j + 1) % 17)))
     ∙ sym (next-bit 16 (λ j. bitAt w ((j + 1) % 17)))
@@ -183,10 +183,11 @@ rotated-row w h =
     above : (j : ℕ) → j < 16 → (j + 1) % 17 ≡ suc j
     above j l = omega arith
 
-    upper : wordOf 16 (λ j. bitAt w ((j + 1) % 17)) ≡ w / 2
+    upper : wordOf 16 (λ j. bitAt w ((j + 1) % 17)) ≡ w / 2 % 2 ^ 16
     upper =
-        wordOf-cong 16 (λ j. bitAt w ((j + 1) % 17)) (bitAt (w / 2)) (λ j l. ap (bitAt w) (above j l) ∙ bitAt-half w j)
-        ∙ wordOf-bits 16 (w / 2) (omega arith)
+        wordOf-cong 16 (λ j. bitAt w ((j + 1) % 17)) (bitAt (w / 2 % 2 ^ 16))
+        (λ j l. ap (bitAt w) (above j l) ∙ bitAt-half w j ∙ sym (bitAt-mod 16 (w / 2) j l))
+        ∙ wordOf-bits 16 (w / 2 % 2 ^ 16) (omega arith)
 
 -- One more bit of a word: bit k of v at place j.
 pub gathered-more : (g : ℕ → Bool) (j k v x : ℕ) → j ≤ 16 → x ≡ wordOf j g → bitAt v k ≡ g j → bitOr x (bitAnd (v / 2 ^ k) 1 * 2 ^ j % 2 ^ 32) ≡ wordOf (j + 1) g
@@ -199,17 +200,16 @@ gathered-more g j k v x h e d =
     go false = or-zero-r (wordOf j g) ∙ sym (add-zero (wordOf j g))
 
 -- A row that was made from a word by its bits.
-pub row-of-word : (g : ℕ → Bool) (w r : ℕ) → w ≡ wordOf 17 g → (w < 2 ^ 17 → r ≡ rowOf (bitAt w)) → r ≡ rowOf g
-row-of-word g w r e h =
-    h (omega (arith, wordOf-lt 17 g)) ∙ ap (λ (x : ℕ). rowOf (bitAt x)) e
-    ∙ rowOf-cong (bitAt (wordOf 17 g)) g (λ j l. bitAt-wordOf-lt 17 g j (omega arith))
+pub row-of-word : (n : ℕ) (g : ℕ → Bool) (w r : ℕ) → 17 ≤ n → w ≡ wordOf n g → r ≡ rowOf (bitAt w) → r ≡ rowOf g
+row-of-word n g w r l e h =
+    h ∙ ap (λ (x : ℕ). rowOf (bitAt x)) e ∙ rowOf-cong (bitAt (wordOf n g)) g (λ j k. bitAt-wordOf-lt n g j (omega arith))
 
 -- The words that index k of a colour multiplies, by the index i of the first of the other two.
-pub word-red : (f : Polynomial) (k i : ℕ) → k ≤ 16 → i ≤ 16 → getD (wordsOf f) (17 * k + i) 0 ≡ wordOf 17 (λ j. f (join Red k i j))
+pub word-red : (f : Polynomial) (k i : ℕ) → k ≤ 16 → i ≤ 16 → getD (wordsOf f) (17 * k + i) 0 ≡ wordOf 32 (λ j. f (join Red k i j))
 unfolding join term
 word-red f k i hk hi = word-at f k i hk hi
 
-pub word-blue : (f : Polynomial) (k i : ℕ) → k ≤ 16 → i ≤ 16 → getD (wordsOf f) (17 * i + k) 0 ≡ wordOf 17 (λ j. f (join Blue k i j))
+pub word-blue : (f : Polynomial) (k i : ℕ) → k ≤ 16 → i ≤ 16 → getD (wordsOf f) (17 * i + k) 0 ≡ wordOf 32 (λ j. f (join Blue k i j))
 unfolding join term
 word-blue f k i hk hi = word-at f i k hi hk
 

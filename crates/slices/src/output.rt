@@ -1,5 +1,7 @@
 // The output string as part of the polynomial.
+ghost use mathlib.Core.Bool.{cond};
 ghost use mathlib.Core.Path.{_≡_};
+ghost use lib.Dec.{leb};
 ghost use Prim.Native.Nat.{_+_, _*_, _≤_, _<_};
 ghost use Rattle.gf2.specs.Words.{highFirst};
 ghost use Rattle.circuit.specs.Colours.{join};
@@ -33,11 +35,12 @@ fn bit_of(colour: Colour, p: usize) -> usize
 
 // A string of one colour added: `value` has position 1 as the highest of its m digits.
 fn add_string(words: [u32; 289], colour: Colour, m: usize, value: u32) -> [u32; 289]
+    requires { ⌜ m ≤ 16 ⌝ }
     ensures { λ r. ⌜ ((f : Polynomial) → words ≡ wordsOf f → r ≡ wordsOf (added colour (highFirst m value) f)) ⌝ }
 {
     let mut next = words;
     let mut p = 1;
-    while p <= 16 && p <= m {
+    while p <= m {
         if gf2::bit(value, m - p) {
             let w = word_of(colour, p);
             let k = bit_of(colour, p);
@@ -48,10 +51,13 @@ fn add_string(words: [u32; 289], colour: Colour, m: usize, value: u32) -> [u32; 
     next
 }
 
-// The output string added, by the numbers of its three strings.
+// The output string added, by the numbers of its three strings; nothing for an m that no circuit has.
 pub fn with_output(words: [u32; 289], m: usize, r: u32, b: u32, g: u32) -> [u32; 289]
-    ensures { λ s. ⌜ ((f : Polynomial) → words ≡ wordsOf f → s ≡ wordsOf (withOutput (strings m r b g) f)) ⌝ }
+    ensures { λ s. ⌜ ((f : Polynomial) → words ≡ wordsOf f → s ≡ wordsOf (cond (leb m 16) (withOutput (strings m r b g) f) f)) ⌝ }
 {
+    if 16 < m {
+        return words;
+    }
     let greens = add_string(words, Colour::Green, m, g);
     let blues = add_string(greens, Colour::Blue, m, b);
     add_string(blues, Colour::Red, m, r)

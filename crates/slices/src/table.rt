@@ -17,11 +17,11 @@ fn index_at(i: usize) -> usize
     (i + 1) % 17
 }
 
-// A word of 17 bits as a row: its bit 0 becomes the last.
+// The 17 low bits of a word as a row: its bit 0 becomes the last.
 fn rotated(w: u32) -> u32
-    ensures { λ r. ⌜ (w < 2 ^ 17 → r ≡ rowOf (bitAt w)) ⌝ }
+    ensures { λ r. ⌜ r ≡ rowOf (bitAt w) ⌝ }
 {
-    (w >> 1) | ((w & 1) << 16)
+    (w >> 1 & 65535) | ((w & 1) << 16)
 }
 
 // Bit `k` of each of the 17 words from `from` on, as a word.

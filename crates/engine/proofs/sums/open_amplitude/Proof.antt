@@ -19,7 +19,7 @@ slice-count-requires c κs = search needs
 returns : tie.Need-returns
 unfolding opening kindOf
 returns c w o l t h = (
-  c .before .open-sum .ensures w o l amplitude h refl,
+  c .before .open-sum .ensures w o l amplitude (t .most) h refl,
   ap (λ (n : ℕ). Answer.Left n) (slices-counted (c .before .before .args .state) w o l h (c .slice-count .result) t (c .slice-count .ensures)),
 )
 

@@ -2,7 +2,7 @@
 use mathlib.Core.Bool.{Bool}
 use mathlib.Core.Logic.{⊎-elim}
 use mathlib.Core.Path.{_≡_, refl, sym, ap, _∙_}
-use Prim.Native.Nat.{ℕ}
+use Prim.Native.Nat.{ℕ, _≤_}
 use Rattle.circuit.specs.declared.Colour.{Colour}
 use Rattle.circuit.specs.Colours.{join}
 use Rattle.answers.specs.declared.Answer.the-variants as Answer
@@ -36,14 +36,14 @@ slice-count-requires : tie.Need-slice-count-requires
 slice-count-requires c κs = search needs
 
 opened :
-    (c : tie.At-match-came) (w : Circuit) (o : Opened) (l : Bool) → c .before .args .state ≡ encodeLoaded (present w o) l →
+    (c : tie.At-match-came) (w : Circuit) (o : Opened) (l : Bool) → w .m ≤ 16 → c .before .args .state ≡ encodeLoaded (present w o) l →
     c .match .next
     ≡ encodeLoaded (opening w readout (c .before .args .colour) (besideUnread (c .before .args .colour) (c .before .args .x) (c .before .args .y)) .after) l
 unfolding kindOf besideUnread join
-opened c w o l h =
-    ⊎-elim (λ way. way .3 ∙ way .2 .ensures w o l readout h refl ∙ beside (way .1 .given .1))
-    (⊎-elim (λ way. way .3 ∙ way .2 .ensures w o l readout h refl ∙ beside (way .1 .given .1))
-    (λ way. way .3 ∙ way .2 .ensures w o l readout h refl ∙ beside (way .1 .given .1)))
+opened c w o l small h =
+    ⊎-elim (λ way. way .3 ∙ way .2 .ensures w o l readout small h refl ∙ beside (way .1 .given .1))
+    (⊎-elim (λ way. way .3 ∙ way .2 .ensures w o l readout small h refl ∙ beside (way .1 .given .1))
+    (λ way. way .3 ∙ way .2 .ensures w o l readout small h refl ∙ beside (way .1 .given .1)))
     (c .match .came)
   where
     beside :
@@ -57,7 +57,7 @@ opened c w o l h =
 returns : tie.Need-returns
 unfolding opening
 returns c w o l t h = (
-  opened (c .before) w o l h,
+  opened (c .before) w o l (t .most) h,
   ap (λ (n : ℕ). Answer.Left n) (slices-counted (c .before .before .args .state) w o l h (c .slice-count .result) t (c .slice-count .ensures)),
 )
 

@@ -3,10 +3,9 @@ use mathlib.Core.Path.{_≡_, sym, _∙_, ap}
 use mathlib.Core.Bool.{false}
 use mathlib.Core.List.{_∷_}
 use mathlib.Core.Logic.{⊎-elim}
-use Prim.Native.Nat.{_-_, _≤_}
+use Prim.Native.Nat.{_+_, _-_, _≤_}
 use native.Mathlib.Omega.{arith}
 use lib.ListN.{length, length-set}
-use borrow.Author.Tests.{leb-true, leb-false}
 use Rattle.gf2.specs.Strings.{BitString, bit}
 use Rattle.gf2.specs.Words.{highFirst}
 use Rattle.circuit.specs.Polynomial.{Polynomial}
@@ -18,11 +17,11 @@ use Rattle.slices.proofs.output.add_string.Tie as tie
 
 abbrev Inv-loop : tie.InvT-loop
 Inv-loop colour m value next₀ p₀ next p =
-    (1 ≤ p) × (p ≤ 17) × (length next ≡ 289)
+    (1 ≤ p) × (p ≤ m + 1) × (length next ≡ 289)
     × ((f : Polynomial) → next₀ ≡ wordsOf f → next ≡ wordsOf (addedBelow p colour (highFirst m value) f))
 
 abbrev μ-loop : tie.MeasureT-loop
-μ-loop colour m value next₀ p₀ next p = 17 - p
+μ-loop colour m value next₀ p₀ next p = m + 1 - p
 
 loop-holds : tie.Need-loop-holds Inv-loop μ-loop
 loop-holds c = (
@@ -31,9 +30,6 @@ loop-holds c = (
   search needs,
   λ f e. e ∙ words-begun (c .args .colour) (highFirst (c .args .m) (c .args .value)) f,
 )
-
-sub-bit : tie.Need-sub-bit Inv-loop μ-loop
-sub-bit c = search needs
 
 bit-requires : tie.Need-bit-requires Inv-loop μ-loop
 bit-requires c κs = search needs
@@ -67,11 +63,12 @@ loop-less c = search needs
 
 loop-again : tie.Need-loop-again Inv-loop μ-loop
 loop-again c =
-    let args = c .before .before .before .before .before .args in
-    let loop = c .before .before .before .before .loop in
+    let args = c .before .before .before .before .args in
+    let loop = c .before .before .before .loop in
     let s : BitString = highFirst (args .m) (args .value) in
+    let small : loop .p ≤ 16 = omega (arith, c .before .before .loop-test .taken, c .before .before .before .before .pre) in
     let digit : bit (loop .p) (false ∷ s) ≡ c .before .bit .result =
-    position-bit (args .m) (args .value) (loop .p) (omega arith) (leb-true _ _ (c .before .before .if1 .taken)) ∙ sym (c .before .bit .ensures) in
+    position-bit (args .m) (args .value) (loop .p) (omega arith) (c .before .before .loop-test .taken) ∙ sym (c .before .bit .ensures) in
     ⊎-elim
     (λ w. (
       omega arith,
@@ -79,7 +76,7 @@ loop-again c =
       ap length (w .4) ∙ length-set (loop .next) (w .1 .result) (w .3 .result) ∙ loop .inv .2,
       λ f e.
           w .4
-          ∙ words-next (args .colour) s f (loop .p) (loop .next) (w .1 .result) (w .2 .result) (w .3 .result) (omega arith)
+          ∙ words-next (args .colour) s f (loop .p) (loop .next) (w .1 .result) (w .2 .result) (w .3 .result) small
           (digit ∙ w .0 .taken) (w .1 .ensures .0) (w .2 .ensures) (w .3 .ensures) (loop .inv .3 f e),
     ))
     (λ w. (
@@ -88,19 +85,13 @@ loop-again c =
       ap length (w .1) ∙ loop .inv .2,
       λ f e. w .1 ∙ loop .inv .3 f e ∙ words-passed (args .colour) s f (loop .p) (digit ∙ w .0 .left),
     ))
-    (c .if2 .came)
+    (c .if1 .came)
 
 returns : tie.Need-returns Inv-loop μ-loop
 returns c =
-    let args = c .before .before .before .args in
-    let loop = c .before .before .loop in
-    λ f e. loop .inv .3 f e ∙ words-ended (args .colour) (args .m) (args .value) (loop .p) f (λ a l h. omega (arith, leb-false (loop .p) (args .m) (c .if1 .left)))
-
-returns-2 : tie.Need-returns-2 Inv-loop μ-loop
-returns-2 c =
     let args = c .before .before .args in
     let loop = c .before .loop in
-    λ f e. loop .inv .3 f e ∙ words-ended (args .colour) (args .m) (args .value) (loop .p) f (λ a l h. absurd (omega arith))
+    λ f e. loop .inv .3 f e ∙ words-ended (args .colour) (args .m) (args .value) (loop .p) f (λ a h. omega (arith, c .loop-test .left))
 
 pub add-string-spec : {M : Type 1} → statement M
 add-string-spec =
@@ -109,7 +100,6 @@ add-string-spec =
     Inv-loop
     μ-loop
     loop-holds
-    sub-bit
     bit-requires
     word-of-requires
     bit-of-requires
@@ -121,5 +111,4 @@ add-string-spec =
     add-p
     loop-less
     loop-again
-    returns
-    returns-2)
+    returns)

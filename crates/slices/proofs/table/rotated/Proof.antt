@@ -4,7 +4,7 @@ use Rattle.slices.proofs.table.rotated.Statement.{statement}
 use Rattle.slices.proofs.table.rotated.Tie as tie
 
 returns : tie.Need-returns
-returns c = λ h. rotated-row (c .args .w) h
+returns c = rotated-row (c .args .w)
 
 pub rotated-spec : {M : Type 1} → statement M
 rotated-spec = tie.close (tie.spec returns)

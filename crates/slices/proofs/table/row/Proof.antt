@@ -72,7 +72,7 @@ returns c =
     let at = c .before .before .before .before .index-at .result in
     let index : at ≡ (args .i + 1) % 17 = c .before .before .before .before .index-at .ensures in
     λ f e.
-    row-of-word (λ j. f (join Red (args .k) at j)) (getD (args .words .now) (17 * args .k + at) 0) (c .rotated .result)
+    row-of-word 32 (λ j. f (join Red (args .k) at j)) (getD (args .words .now) (17 * args .k + at) 0) (c .rotated .result) (omega arith)
     (ap (λ (ws : List ℕ). getD ws (17 * args .k + at) 0) e ∙ word-red f (args .k) at (pre .0) (omega arith)) (c .rotated .ensures)
     ∙ ap₂ (λ (D : Colour) (i : ℕ). rowOf (λ j. f (join D (args .k) i j))) (sym (c .before .before .enum-told .given .1)) index
 
@@ -83,7 +83,7 @@ returns-2 c =
     let at = c .before .before .before .before .index-at .result in
     let index : at ≡ (args .i + 1) % 17 = c .before .before .before .before .index-at .ensures in
     λ f e.
-    row-of-word (λ j. f (join Blue (args .k) at j)) (getD (args .words .now) (17 * at + args .k) 0) (c .rotated2 .result)
+    row-of-word 32 (λ j. f (join Blue (args .k) at j)) (getD (args .words .now) (17 * at + args .k) 0) (c .rotated2 .result) (omega arith)
     (ap (λ (ws : List ℕ). getD ws (17 * at + args .k) 0) e ∙ word-blue f (args .k) at (pre .0) (omega arith)) (c .rotated2 .ensures)
     ∙ ap₂ (λ (D : Colour) (i : ℕ). rowOf (λ j. f (join D (args .k) i j))) (sym (c .before .before .enum-told2 .given .1)) index
 
@@ -94,7 +94,7 @@ returns-3 c =
     let at = c .before .before .before .before .index-at .result in
     let index : at ≡ (args .i + 1) % 17 = c .before .before .before .before .index-at .ensures in
     λ f e.
-    row-of-word (λ j. f (join Green (args .k) at j)) (c .before .gathered .result) (c .rotated3 .result)
+    row-of-word 17 (λ j. f (join Green (args .k) at j)) (c .before .gathered .result) (c .rotated3 .result) (omega arith)
     (c .before .gathered .ensures ∙ ap (λ (ws : List ℕ). wordOf 17 (λ j. bitAt (getD ws (17 * at + j) 0) (args .k))) e ∙ word-green f (args .k) at (pre .0) (omega arith)) (c .rotated3 .ensures)
     ∙ ap₂ (λ (D : Colour) (i : ℕ). rowOf (λ j. f (join D (args .k) i j))) (sym (c .before .before .enum-told3 .given .1)) index
 
