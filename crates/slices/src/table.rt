@@ -1,6 +1,6 @@
 // The table of a sum: for each index of the sliced colour the packed rows that it multiplies.
 ghost use mathlib.Core.Path.{_≡_};
-ghost use Prim.Native.Nat.{_+_, _%_, _^_, _≤_, _<_};
+ghost use Prim.Native.Nat.{_+_, _%_, _≤_, _<_};
 ghost use lib.ListN.{getD};
 ghost use Rattle.gf2.specs.Words.{wordOf, bitAt};
 ghost use Rattle.circuit.specs.Colours.{join};
