@@ -59,7 +59,8 @@ sessionOf input = withLines begun (linesOf input)
 
 -- ---- what the program holds of it
 
--- What waits in the output buffer is the end of what was said. What was said before it went to `flush`, the one function that writes.
+-- What waits in the output buffer is the end of what was said. That the part before it was written is not said here: no contract tells what
+-- `write` does with bytes. In the code only `flush` empties the buffer, and it writes.
 pub record Waits (said out : List ℕ) (w : Waiting) : Type 0 where
   pub written : List ℕ
   pub fits : w .len ≤ length out
