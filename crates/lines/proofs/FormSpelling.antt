@@ -2,7 +2,7 @@
 use Prim.Native.Nat.{ℕ, _+_}
 use mathlib.Core.Path.{_≡_, refl, ap, sym, _∙_}
 use mathlib.Core.Bool.{Bool, true, false, cond, _&&_}
-use mathlib.Core.List.{List, [], _++_, append-nil}
+use mathlib.Core.List.{List, [], _∷_, _++_, append-nil}
 use native.Mathlib.Omega.{arith}
 use lib.ListN.{length, drop, length-drop}
 use lib.Seq.{drop-length}
@@ -20,7 +20,8 @@ use Rattle.lines.specs.declared.Form.{Form}
 use Rattle.lines.specs.declared.Form.the-variants as Form
 use Rattle.lines.specs.declared.GateAt.{GateAt}
 use Rattle.lines.specs.declared.GateAt.the-variants.{Read as GateRead, Missing as NoGate}
-use Rattle.lines.specs.Spelling.{spelledBits, someBits, colourTwice, heldGate, gateForm}
+use Rattle.lines.specs.Spelling.{spelledBits, someBits, allSome, colourTwice}
+use Rattle.lines.specs.Held.{heldGate, gateForm}
 use Rattle.lines.specs.Gates.{withGate, readGate}
 use Rattle.lines.specs.Forms.{ended, closed, gateLine}
 use Rattle.lines.proofs.GateSpelling.{gate-read, gate-stands}
@@ -58,23 +59,24 @@ closed-read l at f e = keyword-then _ _ [] _ _ (bytes ")") _ e λ e₁. ended-re
 pub number-form-read : (l : List ℕ) (at n : ℕ) (form : ℕ → Form) → drop at l ≡ decimal n ++ bytes ")" → number-form form l at ≡ form (capped n)
 number-form-read l at n form e = number-then _ _ (bytes ")") _ _ n _ (λ z. refl) e λ e₁. closed-read _ _ _ e₁
 
-pub two-strings-read : (l : List ℕ) (at : ℕ) (x y : BitString) (form : Bits → Bits → Form) → someBits x && someBits y ≡ true
+pub two-strings-read : (l : List ℕ) (at : ℕ) (x y : BitString) (form : Bits → Bits → Form) → allSome (x ∷ y ∷ []) ≡ true
     → drop at l ≡ spelledBits x ++ (spelledBits y ++ bytes ")")
     → two-strings form l at ≡ form (heldBits x) (heldBits y)
-unfolding spelledBits
+unfolding spelledBits allSome
 two-strings-read l at x y form h e =
-    let p = and-both (someBits x) (someBits y) h in
+    let p = and-both (someBits x) (allSome (y ∷ [])) h in
+    let q = and-both (someBits y) true (p .1) in
     spaced-bits-then _ _ (spelledBits y ++ bytes ")") _ _ x _ (some-bits x (p .0)) refl e λ e₁.
-    spaced-bits-then _ _ (bytes ")") _ _ y _ (some-bits y (p .1)) refl e₁ λ e₂.
+    spaced-bits-then _ _ (bytes ")") _ _ y _ (some-bits y (q .0)) refl e₁ λ e₂.
     closed-read _ _ _ e₂
 
 pub three-strings-read : (l : List ℕ) (at : ℕ) (x y z : BitString) (form : Bits → Bits → Bits → Form)
-    → someBits x && (someBits y && someBits z) ≡ true
+    → allSome (x ∷ y ∷ z ∷ []) ≡ true
     → drop at l ≡ spelledBits x ++ (spelledBits y ++ (spelledBits z ++ bytes ")"))
     → three-strings form l at ≡ form (heldBits x) (heldBits y) (heldBits z)
-unfolding spelledBits
+unfolding spelledBits allSome
 three-strings-read l at x y z form h e =
-    let p = and-both (someBits x) (someBits y && someBits z) h in
+    let p = and-both (someBits x) (allSome (y ∷ z ∷ [])) h in
     spaced-bits-then _ _ (spelledBits y ++ (spelledBits z ++ bytes ")")) _ _ x _ (some-bits x (p .0)) refl e λ e₁.
     two-strings-read _ _ y z (form (heldBits x)) (p .1) e₁
 
@@ -113,20 +115,20 @@ module _ (P : Form → Type 0) (l : List ℕ) (refused : P (Form.Refused 4)) whe
       k n (e₁ ∙ ap (λ (a : List ℕ). decimal n ++ a) e₂)
 
   pub two-strings-cases : (form : Bits → Bits → Form) (at : ℕ)
-      → ((x y : BitString) → someBits x && someBits y ≡ true → drop at l ≡ spelledBits x ++ (spelledBits y ++ bytes ")") → P (form (heldBits x) (heldBits y)))
+      → ((x y : BitString) → allSome (x ∷ y ∷ []) ≡ true → drop at l ≡ spelledBits x ++ (spelledBits y ++ bytes ")") → P (form (heldBits x) (heldBits y)))
       → P (two-strings form l at)
-  unfolding spelledBits
+  unfolding spelledBits allSome
   two-strings-cases form at k =
       spaced-bits-cases P l at (Form.Refused 4) refused _ λ x b p e₁.
       spaced-bits-cases P l b (Form.Refused 4) refused _ λ y d q e₂.
       closed-cases d _ λ e₃.
-      k x y (rw (some-bits-are x p) (some-bits-are y q)) (e₁ ∙ rw (e₂, e₃))
+      k x y (rw (some-bits-are x p, some-bits-are y q)) (e₁ ∙ rw (e₂, e₃))
 
   pub three-strings-cases : (form : Bits → Bits → Bits → Form) (at : ℕ)
-      → ((x y z : BitString) → someBits x && (someBits y && someBits z) ≡ true
+      → ((x y z : BitString) → allSome (x ∷ y ∷ z ∷ []) ≡ true
       → drop at l ≡ spelledBits x ++ (spelledBits y ++ (spelledBits z ++ bytes ")")) → P (form (heldBits x) (heldBits y) (heldBits z)))
       → P (three-strings form l at)
-  unfolding spelledBits
+  unfolding spelledBits allSome
   three-strings-cases form at k =
       spaced-bits-cases P l at (Form.Refused 4) refused _ λ x b p e₁.
       two-strings-cases (form (heldBits x)) b λ y z q e₂.

@@ -17,7 +17,8 @@ use Rattle.lines.specs.declared.Form.{Form}
 use Rattle.lines.specs.declared.Form.the-variants as Form
 use Rattle.lines.specs.declared.GateAt.{GateAt}
 use Rattle.lines.specs.declared.GateAt.the-variants.{Read as GateRead, Missing as NoGate}
-use Rattle.lines.specs.Spelling.{spelledGates, colourTwice, anyColourTwice, heldGate}
+use Rattle.lines.specs.Spelling.{spelledGates, colourTwice, anyColourTwice}
+use Rattle.lines.specs.Held.{heldGate}
 use Rattle.lines.specs.Gates.{withGate, readGate, gatesFrom}
 use Rattle.lines.specs.Forms.{layerFrom}
 use Rattle.lines.proofs.Scanning.{layer-skip}

@@ -10,7 +10,8 @@ use Rattle.gf2.proofs.Impossible.{never}
 use Rattle.circuit.specs.declared.Gate.{Gate}
 use Rattle.text.specs.Reading.{begins, readKeyword}
 use Rattle.lines.specs.Gates.{withGate, readGate, gatesFrom, layerGates, gatesAt, layerGateAt}
-use Rattle.lines.specs.Forms.{formOf}
+use Rattle.lines.specs.Spelling.{readingOf}
+use Rattle.lines.specs.Held.{heldReading}
 use Rattle.lines.specs.declared.GateAt.{GateAt}
 use Rattle.lines.specs.declared.GateAt.the-variants.{Read as GateRead, Missing as NoGate}
 use Rattle.lines.specs.declared.Form.the-variants as Form
@@ -65,5 +66,5 @@ walk-all l (g ∷ gs) at p = go (layerGateAt l at) (sym (step l at) ∙ p) (walk
     go NoGate e again = never (cc)
 
 -- The gates of a layer line are what following the places from 6 on meets, in as many steps as the reader says.
-pub layer-walked : (l : List ℕ) (n : ℕ) → formOf l ≡ Form.Layer n → gatesMet n l 6 ≡ layerGates l
+pub layer-walked : (l : List ℕ) (n : ℕ) → heldReading (readingOf l) ≡ Form.Layer n → gatesMet n l 6 ≡ layerGates l
 layer-walked l n h = rw (sym (layer-count l n h)) (walk-all l (layerGates l) 6 (layer-begins l))

@@ -1,9 +1,10 @@
 pub mod Scanning
-pub mod LayerWalk
 pub mod GateSpelling
 pub mod LayerSpelling
 pub mod FormSpelling
 pub mod AllowedSpelling
 pub mod FormReading
 pub mod OneSpelling
+pub mod Readings
 pub mod LayerLine
+pub mod LayerWalk

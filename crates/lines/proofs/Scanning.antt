@@ -10,9 +10,9 @@ use lib.ListN.{length, getD, take, drop, drop-of-length-le, length-drop}
 use lib.Seq.{drop-cons, drop-drop, take-all}
 use borrow.Author.Tests.{le-leb, lt-leb, eq-eqb, ne-eqb, eqb-true, eqb-false}
 use Rattle.circuit.specs.declared.Gate.{Gate}
-use Rattle.lines.specs.Spelling.{colourTwice}
+use Rattle.lines.specs.Spelling.{isAllowed, allAllowed, colourTwice}
 use Rattle.lines.specs.Gates.{readGate}
-use Rattle.lines.specs.Forms.{isAllowed, allAllowed, layerFrom}
+use Rattle.lines.specs.Forms.{layerFrom}
 use Rattle.lines.specs.declared.GateAt.the-variants.{Read as GateRead, Missing as NoGate}
 use Rattle.lines.specs.declared.Form.{Form}
 use Rattle.lines.specs.declared.Form.the-variants as Form

@@ -1,23 +1,16 @@
--- What a line is read as: a form, or the refusal that it gets (document 01, "Where a line is turned back", places Line and Form).
+-- How the code reads a form from a line, item by item; what it holds then is what is held of the form that is spelled (`shape-held`).
 use Prim.Native.Nat.{ℕ, zero, suc, _+_}
-use mathlib.Core.Bool.{Bool, true, false, cond, _&&_, _||_}
+use mathlib.Core.Bool.{Bool, false, cond, _||_}
 use mathlib.Core.List.{List, [], _∷_}
-use lib.Dec.{eqb, leb, ltb}
+use lib.Dec.{eqb}
 use lib.ListN.{length, drop}
 use Rattle.text.specs.Spelling.{bytes}
 use Rattle.text.specs.Reading.{readKeyword, readNumber, readColour, spacedBits, afterKeyword, withNumber, withColour, withBits}
 use Rattle.lines.specs.declared.Form.{Form}
 use Rattle.lines.specs.declared.Form.the-variants as Form
-use Rattle.lines.specs.Spelling.{colourTwice, gateForm}
+use Rattle.lines.specs.Spelling.{colourTwice}
+use Rattle.lines.specs.Held.{gateForm}
 use Rattle.lines.specs.Gates.{withGate, readGate}
-
--- Refusal 3: "a byte other than digits, a to z, ( ) and space"
-unfoldable pub isAllowed : ℕ → Bool
-isAllowed x = (leb 48 x && leb x 57) || ((leb 97 x && leb x 122) || (eqb x 40 || (eqb x 41 || eqb x 32)))
-
-unfoldable pub allAllowed : List ℕ → Bool
-allAllowed [] = true
-allAllowed (x ∷ xs) = isAllowed x && allAllowed xs
 
 -- The line ends at a place.
 unfoldable pub ended : List ℕ → ℕ → Form → Form
@@ -73,7 +66,7 @@ gateLine l =
     withGate (Form.Refused 4) (readGate l) λ g e.
     ended l e (cond (colourTwice g) (Form.Refused 5) (gateForm g))
 
--- Refusals 4 and 5: "not one of the twelve forms, or a bit string holds another digit", "a `cz` with one colour twice"
+-- A line by its first bytes: refusals 4 and 5.
 unfoldable pub shapeOf : List ℕ → Form
 shapeOf l =
     afterKeyword
@@ -93,8 +86,3 @@ shapeOf l =
     (readKeyword l 0 (bytes "(undo ")) (undoFrom l))
     (readKeyword l 0 (bytes "(layer")) λ a. layerFrom 0 0 false (drop a l))
     (readKeyword l 0 (bytes "(circuit ")) (circuitFrom l)
-
--- Refusals 2 and 3 before them: "longer than 1,024 bytes, line feed not counted", "holds a byte other than ..".
--- A line of no bytes has no form; the engine skips it before it is read.
-unfoldable pub formOf : List ℕ → Form
-formOf l = cond (ltb 1024 (length l)) (Form.Refused 2) (cond (allAllowed l) (shapeOf l) (Form.Refused 3))

@@ -1,3 +1,5 @@
+pub mod Typed
 pub mod Spelling
+pub mod Held
 pub mod Gates
 pub mod Forms

@@ -1,31 +1,20 @@
--- The twelve forms as they are typed, and their spellings (document 01, "Bracket lines"): one spelling a form.
-use Prim.Native.Nat.{ℕ}
-use mathlib.Core.Bool.{Bool, true, false, not, _&&_, _||_}
+-- How the forms are spelled, and what a line is read as (document 01, "Bracket lines", "Where a line is turned back": places Line and Form).
+use Prim.Native.Nat.{ℕ, zero, suc}
+use mathlib.Core.Bool.{Bool, true, false, not, cond, _&&_, _||_}
 use mathlib.Core.List.{List, [], _∷_, _++_}
-use lib.Dec.{eqb}
-use lib.ListN.{length}
+use mathlib.Core.Path.{_≡_}
+use lib.Dec.{eqb, leb, ltb}
+use lib.ListN.{length, getD, drop}
 use Rattle.gf2.specs.Strings.{BitString}
 use Rattle.circuit.specs.Colours.{sameColour}
-use Rattle.circuit.specs.declared.Colour.{Colour}
 use Rattle.circuit.specs.declared.Gate.{Gate}
 use Rattle.circuit.specs.declared.Gate.the-variants.{Ccz, Cz, Cnot}
-use Rattle.text.specs.Spelling.{bytes, decimal, letter, bitDigits, spelledGate}
-use Rattle.text.specs.Reading.{capped, heldBits}
-use Rattle.lines.specs.declared.Form.{Form}
-use Rattle.lines.specs.declared.Form.the-variants as Form
+use Rattle.text.specs.Spelling.{bytes, sameBytes, decimal, letter, bitDigits, spelledGate}
+use Rattle.text.specs.Reading.{begins}
+use Rattle.text.specs.Items.{valueFrom, frontBits, pastBits, colourOf, gateOf}
+use Rattle.lines.specs.Typed.{Asked, amp, part, Typed, circuit, gate, layer, undo, start, sum, step, drop as dropped, terms, row}
 
--- "A line is one of twelve forms": the three gates, and nine more. Numbers and bit strings are of any size.
-pub data Typed : Type 0 where
-  circuit : ℕ → Typed
-  gate : Gate → Typed
-  layer : List Gate → Typed
-  undo : ℕ → Typed
-  start : BitString → BitString → BitString → Typed
-  amp : Colour → BitString → BitString → BitString → Typed
-  part : Colour → BitString → BitString → Typed
-  step : ℕ → Typed
-  drop : Typed
-  terms : Typed
+-- ---- one spelling a form
 
 -- "Items stand one space apart": a space before each gate of a layer.
 unfoldable pub spelledGates : List Gate → List ℕ
@@ -42,27 +31,39 @@ spelled (gate g) = spelledGate g
 spelled (layer gs) = bytes "(layer" ++ (spelledGates gs ++ bytes ")")
 spelled (undo k) = bytes "(undo " ++ (decimal k ++ bytes ")")
 spelled (start r b g) = bytes "(start" ++ (spelledBits r ++ (spelledBits b ++ (spelledBits g ++ bytes ")")))
-spelled (amp C r b g) = bytes "(amp " ++ (letter C ∷ (spelledBits r ++ (spelledBits b ++ (spelledBits g ++ bytes ")"))))
-spelled (part C x y) = bytes "(part " ++ (letter C ∷ (spelledBits x ++ (spelledBits y ++ bytes ")")))
+spelled (sum (amp C r b g)) = bytes "(amp " ++ (letter C ∷ (spelledBits r ++ (spelledBits b ++ (spelledBits g ++ bytes ")"))))
+spelled (sum (part C x y)) = bytes "(part " ++ (letter C ∷ (spelledBits x ++ (spelledBits y ++ bytes ")")))
 spelled (step k) = bytes "(step " ++ (decimal k ++ bytes ")")
-spelled drop = bytes "(drop)"
+spelled dropped = bytes "(drop)"
 spelled terms = bytes "(terms)"
 
 -- "one or more digits 0 and 1"
 unfoldable pub someBits : BitString → Bool
 someBits s = not (eqb (length s) 0)
 
-unfoldable pub wellFormed : Typed → Bool
-wellFormed (circuit m) = true
-wellFormed (gate g) = true
-wellFormed (layer gs) = true
-wellFormed (undo k) = true
-wellFormed (start r b g) = someBits r && (someBits b && someBits g)
-wellFormed (amp C r b g) = someBits r && (someBits b && someBits g)
-wellFormed (part C x y) = someBits x && someBits y
-wellFormed (step k) = true
-wellFormed drop = true
-wellFormed terms = true
+unfoldable pub allSome : List BitString → Bool
+allSome [] = true
+allSome (s ∷ ss) = someBits s && allSome ss
+
+-- The bytes are the spelling of a form.
+pub record Spells (l : List ℕ) (t : Typed) : Type 0 where
+  pub strings : allSome (row t .strings) ≡ true
+  pub is : l ≡ spelled t
+
+-- ---- what a line is read as
+
+-- A form, or the number of the refusal.
+pub data Reading : Type 0 where
+  form : Typed → Reading
+  refused : ℕ → Reading
+
+-- Refusal 3: "a byte other than digits, a to z, ( ) and space"
+unfoldable pub isAllowed : ℕ → Bool
+isAllowed x = (leb 48 x && leb x 57) || ((leb 97 x && leb x 122) || (eqb x 40 || (eqb x 41 || eqb x 32)))
+
+unfoldable pub allAllowed : List ℕ → Bool
+allAllowed [] = true
+allAllowed (x ∷ xs) = isAllowed x && allAllowed xs
 
 -- Refusal 5: "a `cz` with one colour twice"
 unfoldable pub colourTwice : Gate → Bool
@@ -74,38 +75,35 @@ unfoldable pub anyColourTwice : List Gate → Bool
 anyColourTwice [] = false
 anyColourTwice (g ∷ gs) = colourTwice g || anyColourTwice gs
 
-unfoldable pub twiceIn : Typed → Bool
-twiceIn (circuit m) = false
-twiceIn (gate g) = colourTwice g
-twiceIn (layer gs) = anyColourTwice gs
-twiceIn (undo k) = false
-twiceIn (start r b g) = false
-twiceIn (amp C r b g) = false
-twiceIn (part C x y) = false
-twiceIn (step k) = false
-twiceIn drop = false
-twiceIn terms = false
+-- The gates of a layer, each after a space: `skip` bytes of the last one are still to be passed.
+unfoldable pub gatesAfter : ℕ → List ℕ → List Gate
+gatesAfter skip [] = []
+gatesAfter (suc skip) (x ∷ xs) = gatesAfter skip xs
+gatesAfter zero (x ∷ xs) = cond (eqb x 32) (gateOf xs ∷ gatesAfter (length (spelledGate (gateOf xs))) xs) []
 
--- What is held of a gate, and of a form: a number above 65,536 is held as 65,537, of a layer the number of its gates.
-unfoldable pub heldGate : Gate → Gate
-heldGate (Ccz i j k) = Ccz (capped i) (capped j) (capped k)
-heldGate (Cz p q) =
-    Cz (record { colour = p .colour; position = capped (p .position) }) (record { colour = q .colour; position = capped (q .position) })
-heldGate (Cnot C c t) = Cnot C (capped c) (capped t)
+-- The only form that a line can be the spelling of (`one-spelling`): by its first bytes, its items in their places.
+unfoldable pub typedOf : List ℕ → Typed
+typedOf l =
+    cond (begins (bytes "(circuit ") l) (circuit (valueFrom 0 (drop 9 l)))
+    (cond (begins (bytes "(layer") l) (layer (gatesAfter 0 (drop 6 l)))
+    (cond (begins (bytes "(undo ") l) (undo (valueFrom 0 (drop 6 l)))
+    (cond (begins (bytes "(start") l) (start (frontBits (drop 7 l)) (frontBits (pastBits (drop 7 l))) (frontBits (pastBits (pastBits (drop 7 l)))))
+    (cond (begins (bytes "(amp ") l) (sum (amp (colourOf (getD l 5 0)) (frontBits (drop 7 l)) (frontBits (pastBits (drop 7 l))) (frontBits (pastBits (pastBits (drop 7 l))))))
+    (cond (begins (bytes "(part ") l) (sum (part (colourOf (getD l 6 0)) (frontBits (drop 8 l)) (frontBits (pastBits (drop 8 l)))))
+    (cond (begins (bytes "(step ") l) (step (valueFrom 0 (drop 6 l)))
+    (cond (begins (bytes "(drop)") l) dropped
+    (cond (begins (bytes "(terms)") l) terms (gate (gateOf l))))))))))
 
-unfoldable pub gateForm : Gate → Form
-gateForm (Ccz i j k) = Form.Ccz i j k
-gateForm (Cz p q) = Form.Cz p q
-gateForm (Cnot C c t) = Form.Cnot C c t
+-- Refusals 4 and 5 of a line: "not one of the twelve forms, or a bit string holds another digit", and a `cz` with one colour twice.
+unfoldable pub shapeAs : List ℕ → Typed → Reading
+shapeAs l t =
+    cond (allSome (row t .strings) && sameBytes l (spelled t)) (cond (anyColourTwice (row t .gates)) (refused 5) (form t)) (refused 4)
 
-unfoldable pub held : Typed → Form
-held (circuit m) = Form.Circuit (capped m)
-held (gate g) = gateForm (heldGate g)
-held (layer gs) = Form.Layer (length gs)
-held (undo k) = Form.Undo (capped k)
-held (start r b g) = Form.Start (heldBits r) (heldBits b) (heldBits g)
-held (amp C r b g) = Form.Amp C (heldBits r) (heldBits b) (heldBits g)
-held (part C x y) = Form.Part C (heldBits x) (heldBits y)
-held (step k) = Form.Step (capped k)
-held drop = Form.Drop
-held terms = Form.Terms
+-- Refusals 2 and 3 before them: "longer than 1,024 bytes, line feed not counted". A line of no bytes is skipped before it is read.
+unfoldable pub readingOf : List ℕ → Reading
+readingOf l = cond (ltb 1024 (length l)) (refused 2) (cond (allAllowed l) (shapeAs l (typedOf l)) (refused 3))
+
+-- The gates of a line: one, those of a layer, or none.
+unfoldable pub gatesIn : Reading → List Gate
+gatesIn (form t) = row t .gates
+gatesIn (refused n) = []

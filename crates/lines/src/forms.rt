@@ -2,7 +2,8 @@
 ghost use mathlib.Core.Path.{_≡_};
 ghost use mathlib.Core.Bool.{false, cond, _||_};
 ghost use lib.ListN.{drop};
-ghost use Rattle.lines.specs.Spelling.{colourTwice, gateForm};
+ghost use Rattle.lines.specs.Held.{gateForm};
+ghost use Rattle.lines.specs.Spelling.{colourTwice};
 ghost use Rattle.lines.specs.Forms as specs;
 use crate::Form;
 use crate::GateAt;

@@ -1,6 +1,8 @@
 // A line read as a form: refusals 2 to 5 of document 01.
 ghost use mathlib.Core.Path.{_≡_};
-ghost use Rattle.lines.specs.Forms.{isAllowed, allAllowed, shapeOf, formOf};
+ghost use Rattle.lines.specs.Forms.{shapeOf};
+ghost use Rattle.lines.specs.Held.{heldReading};
+ghost use Rattle.lines.specs.Spelling.{isAllowed, allAllowed, readingOf};
 use circuit::Colour;
 use circuit::Gate;
 use circuit::Spot;
@@ -27,6 +29,18 @@ pub enum Form {
     Drop,
     Terms,
     Refused(u8),
+}
+
+// What a form is there for.
+pub enum Class {
+    Creates,
+    Builds,
+    TakesBack,
+    Starts,
+    Opens,
+    Steps,
+    Drops,
+    Lists,
 }
 
 pub enum SpotAt {
@@ -114,9 +128,9 @@ fn shape(line: &[u8]) -> Form
     forms::gate_line(line)
 }
 
-// The place Line of document 01, and then the place Form.
+// The place Line of document 01, and then the place Form: what is held of the line as it was typed.
 pub fn read(line: &[u8]) -> Form
-    ensures { λ r. ⌜ r ≡ formOf (now (line .entry)) ⌝ }
+    ensures { λ r. ⌜ r ≡ heldReading (readingOf (now (line .entry))) ⌝ }
 {
     if 1024 < line.len() {
         return Form::Refused(2);

@@ -12,6 +12,7 @@ use Rattle.gf2.specs.Strings.{BitString}
 use Rattle.gf2.proofs.Impossible.{never}
 use Rattle.text.specs.Spelling.{bitDigits, numberAfter}
 use Rattle.text.specs.Reading.{bitsFrom}
+use Rattle.text.specs.Items.{frontBits, afterBits}
 use Rattle.text.specs.declared.BitsAt.the-variants.{Read as BitsRead}
 
 -- Does a bit stand at the front?
@@ -80,15 +81,6 @@ parted (x ∷ xs) = go (eqb x 48) (eqb x 49) refl refl (parted xs)
     go true q e f r = more false (eqb-true x 48 e) r
     go false true e f r = more true (eqb-true x 49 f) r
     go false false e f r = record { front = []; after = x ∷ xs; is = refl; ends = rw (e, f) }
-
-pub frontBits : List ℕ → BitString
-frontBits [] = []
-frontBits (x ∷ xs) = cond (eqb x 48) (false ∷ frontBits xs) (cond (eqb x 49) (true ∷ frontBits xs) [])
-
--- What follows those bits.
-pub afterBits : List ℕ → List ℕ
-afterBits [] = []
-afterBits (x ∷ xs) = cond (eqb x 48) (afterBits xs) (cond (eqb x 49) (afterBits xs) (x ∷ xs))
 
 no-bits : (rest : List ℕ) → startsBit rest ≡ false → (frontBits rest ≡ []) × (afterBits rest ≡ rest)
 unfolding frontBits afterBits

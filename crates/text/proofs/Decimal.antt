@@ -9,6 +9,7 @@ use lib.Dec.{ltb, leb}
 use borrow.Author.Tests.{ltb-true, ltb-false, lt-ltb, le-ltb, leb-true, le-leb}
 use Rattle.gf2.proofs.Impossible.{never}
 use Rattle.text.specs.Spelling.{digits, decimal}
+use Rattle.text.specs.Items.{isDigit, valueFrom, afterDigits}
 
 -- ---- the digits of a number, from those of its tenth
 
@@ -61,9 +62,6 @@ by-tenths P one more n = below (suc n) n (omega arith)
 
 -- ---- bytes that are digits
 
-abbrev pub isDigit : ℕ → Bool
-isDigit x = leb 48 x && leb x 57
-
 pub digit-range : (x : ℕ) → isDigit x ≡ true → (48 ≤ x) × (x ≤ 57)
 digit-range x h = go (leb 48 x) (leb x 57) refl refl h
   where
@@ -113,16 +111,6 @@ parted (x ∷ xs) = go (isDigit x) refl (parted xs)
     go false e r = record { front = []; after = x ∷ xs; is = refl; digits-of = tt; ends = e }
 
 -- ---- the number that digits make
-
--- The number that the digits at the front make, after the number v.
-unfoldable pub valueFrom : ℕ → List ℕ → ℕ
-valueFrom v [] = v
-valueFrom v (x ∷ xs) = cond (isDigit x) (valueFrom (v * 10 + (x - 48)) xs) v
-
--- What follows the digits at the front.
-unfoldable pub afterDigits : List ℕ → List ℕ
-afterDigits [] = []
-afterDigits (x ∷ xs) = cond (isDigit x) (afterDigits xs) (x ∷ xs)
 
 value-digit : (v x : ℕ) (xs : List ℕ) → isDigit x ≡ true → valueFrom v (x ∷ xs) ≡ valueFrom (v * 10 + (x - 48)) xs
 unfolding valueFrom

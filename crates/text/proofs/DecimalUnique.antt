@@ -10,7 +10,8 @@ use lib.IntN.{ℤ, pos, negsuc}
 use lib.ListN.{length, length-append}
 use borrow.Author.Tests.{ltb-true, ltb-false, ne-eqb}
 use Rattle.text.specs.Spelling.{decimal, signedDecimal}
-use Rattle.text.proofs.Decimal.{decimal-one, decimal-more, by-tenths, isDigit, Digits, startsDigit, valueFrom, afterDigits, decimal-digits, value-of-decimal, value-decimal, after-decimal}
+use Rattle.text.specs.Items.{isDigit, valueFrom, afterDigits}
+use Rattle.text.proofs.Decimal.{decimal-one, decimal-more, by-tenths, Digits, startsDigit, decimal-digits, value-of-decimal, value-decimal, after-decimal}
 
 -- ---- one to one
 

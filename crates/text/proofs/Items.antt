@@ -16,6 +16,7 @@ use Rattle.gf2.specs.Strings.{BitString}
 use Rattle.gf2.proofs.Impossible.{never}
 use Rattle.text.specs.Spelling.{bytes, decimal, letter, bitDigits, numberOfBits}
 use Rattle.text.specs.Reading.{capped, heldBits, begins, readKeyword, digitsFrom, numberFrom, readNumber, colourFrom, readColour, bitsFrom, oneOrMore, readBits, afterKeyword, spacedNumber, spacedBits}
+use Rattle.text.specs.Items.{valueFrom}
 use Rattle.text.specs.declared.Bits.{Bits}
 use Rattle.text.specs.declared.KeywordAt.{KeywordAt}
 use Rattle.text.specs.declared.KeywordAt.the-variants.{Ends, Missing as NoKeyword}
@@ -24,7 +25,7 @@ use Rattle.text.specs.declared.ColourAt.the-variants.{Read as ColourRead
 use Rattle.text.specs.declared.BitsAt.the-variants.{Read as BitsRead, Missing as NoBits}
 use Rattle.text.proofs.BitDigits.{startsBit, bits-spelled}
 use Rattle.text.proofs.BitDigits as BitDigits
-use Rattle.text.proofs.Decimal.{digit-range, Digits, startsDigit, valueFrom, decimal-digits, value-of-decimal, decimal-leading, decimal-one, decimal-value, parted}
+use Rattle.text.proofs.Decimal.{digit-range, Digits, startsDigit, decimal-digits, value-of-decimal, decimal-leading, decimal-one, decimal-value, parted}
 
 -- ---- places
 

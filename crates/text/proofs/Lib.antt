@@ -7,3 +7,4 @@ pub mod ItemCases
 pub mod DecimalUnique
 pub mod GateItems
 pub mod GatesUnique
+pub mod SameBytes

@@ -1,6 +1,6 @@
 -- The tests part the bytes where `isAllowed` does.
 use mathlib.Core.Path.{sym}
-use Rattle.lines.specs.Forms.{isAllowed}
+use Rattle.lines.specs.Spelling.{isAllowed}
 use Rattle.lines.proofs.Scanning.{digit-allowed, letter-allowed, below-digits, above-digits, above-letters}
 use Rattle.lines.proofs.allowed.Statement.{statement}
 use Rattle.lines.proofs.allowed.Tie as tie

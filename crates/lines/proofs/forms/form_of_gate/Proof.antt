@@ -1,5 +1,5 @@
 -- One case a gate.
-use Rattle.lines.specs.Spelling.{gateForm}
+use Rattle.lines.specs.Held.{gateForm}
 use borrow.Author.Needs.{needs}
 use Rattle.lines.proofs.forms.form_of_gate.Statement.{statement}
 use Rattle.lines.proofs.forms.form_of_gate.Tie as tie
