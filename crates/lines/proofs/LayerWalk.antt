@@ -9,7 +9,7 @@ use lib.Seq.{drop-drop}
 use Rattle.gf2.proofs.Impossible.{never}
 use Rattle.circuit.specs.declared.Gate.{Gate}
 use Rattle.text.specs.Reading.{begins, readKeyword}
-use Rattle.lines.specs.Gates.{withGate, readGate, gatesFrom, layerGates, gatesAt, layerGateAt}
+use Rattle.lines.specs.Gates.{withGate, readGate, gatesFrom, layerGates, gatesAt, layerGateAt, gatesMet}
 use Rattle.lines.specs.Spelling.{readingOf}
 use Rattle.lines.specs.Held.{heldReading}
 use Rattle.lines.specs.declared.GateAt.{GateAt}
@@ -49,11 +49,6 @@ module _ (l : List ℕ) (at : ℕ) where
 
   pub gates-end : layerGateAt l at ≡ NoGate → gatesAt l at ≡ []
   gates-end h = step ∙ ap (λ (r : GateAt). withGate [] r λ g next. g ∷ gatesAt l next) h
-
--- What following the places gives, n times from a place on.
-unfoldable pub gatesMet : ℕ → List ℕ → ℕ → List Gate
-gatesMet zero l at = []
-gatesMet (suc n) l at = withGate [] (layerGateAt l at) λ g next. g ∷ gatesMet n l next
 
 walk-all : (l : List ℕ) (gs : List Gate) (at : ℕ) → gatesAt l at ≡ gs → gatesMet (length gs) l at ≡ gs
 unfolding gatesMet

@@ -94,3 +94,8 @@ layerGateAt l at =
     afterKeyword NoGate (readKeyword l at (bytes " ")) λ from.
     withGate NoGate (readGate (drop from l)) λ g e.
     GateRead g (from + e)
+
+-- What following the places gives, n times from a place on.
+unfoldable pub gatesMet : ℕ → List ℕ → ℕ → List Gate
+gatesMet zero l at = []
+gatesMet (suc n) l at = withGate [] (layerGateAt l at) λ g next. g ∷ gatesMet n l next

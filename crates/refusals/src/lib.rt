@@ -1,18 +1,22 @@
 // A line read, and all places tried at which it can be turned back.
 ghost use mathlib.Core.Path.{_≡_};
-ghost use Rattle.lines.specs.Forms.{formOf};
-ghost use Rattle.refusals.specs.Refusals.{lineGates, refusalBy};
+ghost use Prim.Native.Nat.{min};
+ghost use Rattle.lines.specs.Held.{heldReading};
+ghost use Rattle.lines.specs.Spelling.{readingOf};
+ghost use Rattle.refusals.specs.Refusals.{refusalBy};
 use lines::Form;
 
 mod places;
+mod rows;
 
-// A line's form, and the number of its refusal, 0 for none.
+// What is held of a line's form, and the number of the line's refusal, 0 for none.
 pub struct Tried {
     pub form: Form,
     pub refusal: u8,
 }
 
-// By what the places look at: is there a circuit, is a sum open, m, the length of the history, and how many gates are held.
+// By what the places look at: is there a circuit, is a sum open, m (no circuit has more than 16 positions), the length of the history, and
+// how many gates are held.
 pub fn try_line(
     loaded: bool,
     summing: bool,
@@ -21,8 +25,8 @@ pub fn try_line(
     held: usize,
     line: &[u8],
 ) -> Tried
-    ensures { λ r. ⌜ (r .form ≡ formOf (now (line .entry))) ×
-        (r .refusal ≡ refusalBy loaded summing m room held (formOf (now (line .entry))) (lineGates (formOf (now (line .entry))) (now (line .entry)))) ⌝ }
+    ensures { λ r. ⌜ (r .form ≡ heldReading (readingOf (now (line .entry)))) ×
+        (r .refusal ≡ refusalBy loaded summing (min m 16) room held (readingOf (now (line .entry)))) ⌝ }
 {
     let form = lines::read(line);
     let refusal = places::refusal(loaded, summing, m, room, held, line, form);

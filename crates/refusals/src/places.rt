@@ -1,62 +1,96 @@
 // Where a line is turned back: the places Moment, Operands and History. Each function gives the number of the refusal, 0 for none.
-ghost use mathlib.Core.Bool.{not, _&&_, _||_};
-ghost use mathlib.Core.List.{List};
+ghost use mathlib.Core.Bool.{true, not, _&&_, _||_};
 ghost use mathlib.Core.Path.{_≡_};
-ghost use Prim.Native.Nat.{ℕ};
-ghost use lib.ListN.{length};
-ghost use Rattle.circuit.specs.declared.Gate.{Gate};
+ghost use Prim.Native.Nat.{ℕ, min, _≤_};
+ghost use lib.Dec.{ltb};
+ghost use mathlib.Core.List.{List};
 ghost use Rattle.circuit.specs.Sum.{isPosition};
-ghost use Rattle.lines.specs.Forms.{formOf};
-ghost use Rattle.lines.specs.Gates.{layerGates};
-ghost use Rattle.refusals.specs.Refusals.{isCircuit, works, lineGates, momentRefusal, inRange, onItself, allInRange, anyOnItself, outOfRange, within, notLong, wrongLength, operandRefusal, places, undoesMore, historyRefusal, formRefusal, refusalBy};
+ghost use Rattle.lines.specs.declared.Class.the-variants as Class;
+ghost use Rattle.lines.specs.Gates.{gatesMet};
+ghost use Rattle.lines.specs.Held.{heldReading};
+ghost use Rattle.lines.specs.Spelling.{readingOf};
+ghost use Rattle.lines.specs.Typed.{Typed, row as typedRow};
+ghost use Rattle.refusals.specs.HeldRows.{notLong, wrongLength, metGates, countOf, Tells};
+ghost use Rattle.refusals.specs.Refusals.{isClass, works, momentRefusal, inRange, onItself, allInRange, anyOnItself, within, operandRefusal, places, historyRefusal, rowRefusal, refusalBy};
+use crate::rows::FormRow;
+use crate::rows::Gates;
+use crate::rows::HeldRow;
+use crate::rows::Strings;
+use crate::rows::row_of;
 use circuit::Gate;
+use lines::Class;
 use lines::Form;
 use lines::GateAt;
 use text::Bits;
 
-fn is_circuit(form: Form) -> bool
-    ensures { λ r. ⌜ r ≡ isCircuit form ⌝ }
+fn creates(class: Class) -> bool
+    ensures { λ r. ⌜ r ≡ isClass Class.Creates class ⌝ }
 {
-    if let Form::Circuit(_) = form {
-        true
-    } else {
-        false
+    match class {
+        Class::Creates => true,
+        Class::Builds
+        | Class::TakesBack
+        | Class::Starts
+        | Class::Opens
+        | Class::Steps
+        | Class::Drops
+        | Class::Lists => false,
+    }
+}
+
+fn takes_back(class: Class) -> bool
+    ensures { λ r. ⌜ r ≡ isClass Class.TakesBack class ⌝ }
+{
+    match class {
+        Class::TakesBack => true,
+        Class::Creates
+        | Class::Builds
+        | Class::Starts
+        | Class::Opens
+        | Class::Steps
+        | Class::Drops
+        | Class::Lists => false,
     }
 }
 
 // Is the form `step` or `drop`?
-fn works(form: Form) -> bool
-    ensures { λ r. ⌜ r ≡ works form ⌝ }
+fn works(class: Class) -> bool
+    ensures { λ r. ⌜ r ≡ works class ⌝ }
 {
-    if let Form::Step(_) = form {
-        return true;
+    match class {
+        Class::Steps | Class::Drops => true,
+        Class::Creates
+        | Class::Builds
+        | Class::TakesBack
+        | Class::Starts
+        | Class::Opens
+        | Class::Lists => false,
     }
-    if let Form::Drop = form { true } else { false }
 }
 
 // 6: no circuit yet, and the form is not `circuit`.
-fn without_circuit(loaded: bool, form: Form) -> bool
-    ensures { λ r. ⌜ r ≡ not loaded && not (isCircuit form) ⌝ }
+fn without_circuit(loaded: bool, class: Class) -> bool
+    ensures { λ r. ⌜ r ≡ not loaded && not (isClass Class.Creates class) ⌝ }
 {
     if loaded {
         return false;
     }
-    !is_circuit(form)
+    !creates(class)
 }
 
-fn moment(loaded: bool, summing: bool, form: Form) -> u8
-    ensures { λ r. ⌜ r ≡ momentRefusal loaded summing form ⌝ }
+fn moment(loaded: bool, summing: bool, class: Class) -> u8
+    ensures { λ r. ⌜ r ≡ momentRefusal loaded summing class ⌝ }
 {
-    if without_circuit(loaded, form) {
+    if without_circuit(loaded, class) {
         return 6;
     }
     if summing {
-        if works(form) {
+        if works(class) {
             return 0;
         }
         return 7;
     }
-    if works(form) {
+    if works(class) {
         return 8;
     }
     0
@@ -105,8 +139,7 @@ fn gate_checked(m: usize, g: Gate) -> Checked
 
 // Over the gates of a layer, one after the other.
 fn layer_checked(m: usize, line: &[u8], n: usize) -> Checked
-    requires { ⌜ formOf (now line) ≡ Form.Layer n ⌝ }
-    ensures { λ r. ⌜ (r .inside ≡ allInRange m (layerGates (now (line .entry)))) × (r .itself ≡ anyOnItself (layerGates (now (line .entry)))) ⌝ }
+    ensures { λ r. ⌜ (r .inside ≡ allInRange m (gatesMet n (now (line .entry)) 6)) × (r .itself ≡ anyOnItself (gatesMet n (now (line .entry)) 6)) ⌝ }
 {
     let mut inside = true;
     let mut itself = false;
@@ -126,20 +159,16 @@ fn layer_checked(m: usize, line: &[u8], n: usize) -> Checked
 }
 
 // Over the gates of a line: one, those of a layer, or none.
-fn gates_checked(m: usize, line: &[u8], form: Form) -> Checked
-    requires { ⌜ form ≡ formOf (now line) ⌝ }
-    ensures { λ r. ⌜ (r .inside ≡ allInRange m (lineGates form (now (line .entry)))) ×
-        (r .itself ≡ anyOnItself (lineGates form (now (line .entry)))) ⌝ }
+fn gates_checked(m: usize, line: &[u8], gates: Gates) -> Checked
+    ensures { λ r. ⌜ (r .inside ≡ allInRange m (metGates gates (now (line .entry)))) × (r .itself ≡ anyOnItself (metGates gates (now (line .entry)))) ⌝ }
 {
-    match form {
-        Form::Ccz(i, j, k) => gate_checked(m, Gate::Ccz(i, j, k)),
-        Form::Cz(p, q) => gate_checked(m, Gate::Cz(p, q)),
-        Form::Cnot(colour, c, t) => gate_checked(m, Gate::Cnot(colour, c, t)),
-        Form::Layer(n) => layer_checked(m, line, n),
-        _ => Checked {
+    match gates {
+        Gates::None => Checked {
             inside: true,
             itself: false,
         },
+        Gates::One(gate) => gate_checked(m, gate),
+        Gates::Layer(n) => layer_checked(m, line, n),
     }
 }
 
@@ -152,79 +181,53 @@ fn within(low: usize, high: usize, n: usize) -> bool
     n <= high
 }
 
-// 9: m, a position, k or a layer's gate count outside its range.
-fn out_of_range(m: usize, form: Form, inside: bool) -> bool
-    ensures { λ r. ⌜ ((gs : List Gate) → inside ≡ allInRange m gs → r ≡ outOfRange m form gs) ⌝ }
-{
-    match form {
-        Form::Circuit(n) => !within(1, 16, n),
-        Form::Ccz(_, _, _) => !inside,
-        Form::Cz(_, _) => !inside,
-        Form::Cnot(_, _, _) => !inside,
-        Form::Layer(n) => {
-            if within(1, 48, n) {
-                return !inside;
-            }
-            true
-        }
-        Form::Undo(k) => !within(1, 4096, k),
-        Form::Step(k) => !within(1, 65536, k),
-        _ => false,
-    }
-}
-
 fn not_long(m: usize, bits: Bits) -> bool
     ensures { λ r. ⌜ r ≡ notLong m bits ⌝ }
 {
     bits.len != m
 }
 
-fn any_not_long(m: usize, r: Bits, b: Bits, g: Bits) -> bool
-    ensures { λ a. ⌜ a ≡ notLong m r || (notLong m b || notLong m g) ⌝ }
-{
-    not_long(m, r) || (not_long(m, b) || not_long(m, g))
-}
-
 // 11: a bit string not m long.
-fn wrong_length(m: usize, form: Form) -> bool
-    ensures { λ r. ⌜ r ≡ wrongLength m form ⌝ }
+fn wrong_length(m: usize, strings: Strings) -> bool
+    ensures { λ r. ⌜ r ≡ wrongLength m strings ⌝ }
 {
-    match form {
-        Form::Start(r, b, g) => any_not_long(m, r, b, g),
-        Form::Amp(_, r, b, g) => any_not_long(m, r, b, g),
-        Form::Part(_, x, y) => not_long(m, x) || not_long(m, y),
-        _ => false,
+    match strings {
+        Strings::None => false,
+        Strings::Two(x, y) => not_long(m, x) || not_long(m, y),
+        Strings::Three(x, y, z) => not_long(m, x) || (not_long(m, y) || not_long(m, z)),
     }
 }
 
-fn operands(m: usize, line: &[u8], form: Form) -> u8
-    requires { ⌜ form ≡ formOf (now line) ⌝ }
-    ensures { λ r. ⌜ r ≡ operandRefusal m form (lineGates form (now (line .entry))) ⌝ }
+fn operands(m: usize, line: &[u8], row: HeldRow) -> u8
+    requires { ⌜ m ≤ 16 ⌝ }
+    ensures { λ r. ⌜ ((t : Typed) → Tells (now (line .entry)) t row → r ≡ operandRefusal m (typedRow t)) ⌝ }
 {
-    let c = gates_checked(m, line, form);
-    let outside = out_of_range(m, form, c.inside);
-    if outside {
+    let gates = row.gates;
+    let checked = gates_checked(m, line, gates);
+    if !within(row.least, row.most, row.number) {
         return 9;
     }
-    if c.itself {
+    if !checked.inside {
+        return 9;
+    }
+    if checked.itself {
         return 10;
     }
-    if wrong_length(m, form) {
+    let strings = row.strings;
+    if wrong_length(m, strings) {
         return 11;
     }
     0
 }
 
 // How many gates a line has.
-fn gate_count(form: Form) -> usize
-    ensures { λ r. ⌜ ((l : List ℕ) → form ≡ formOf l → r ≡ length (lineGates form l)) ⌝ }
+fn gate_count(gates: Gates) -> usize
+    ensures { λ r. ⌜ r ≡ countOf gates ⌝ }
 {
-    match form {
-        Form::Ccz(_, _, _) => 1,
-        Form::Cz(_, _) => 1,
-        Form::Cnot(_, _, _) => 1,
-        Form::Layer(n) => n,
-        _ => 0,
+    match gates {
+        Gates::None => 0,
+        Gates::One(_) => 1,
+        Gates::Layer(n) => n,
     }
 }
 
@@ -236,38 +239,62 @@ fn places_of(room: usize) -> usize
 }
 
 // 12: an undo of more gates than are held.
-fn undoes_more(held: usize, form: Form) -> bool
-    ensures { λ r. ⌜ r ≡ undoesMore held form ⌝ }
+fn undoes_more(held: usize, class: Class, k: usize) -> bool
+    ensures { λ r. ⌜ r ≡ isClass Class.TakesBack class && ltb held k ⌝ }
 {
-    if let Form::Undo(k) = form {
-        held < k
-    } else {
-        false
-    }
+    takes_back(class) && held < k
 }
 
 // 13: fewer free places than the line has gates.
-fn in_history(room: usize, held: usize, form: Form) -> u8
-    ensures { λ r. ⌜ ((l : List ℕ) → form ≡ formOf l → r ≡ historyRefusal room held form (lineGates form l)) ⌝ }
+fn in_history(room: usize, held: usize, row: HeldRow) -> u8
+    ensures { λ r. ⌜ ((l : List ℕ) (t : Typed) → Tells l t row → within (typedRow t .least) (typedRow t .most) (typedRow t .number) ≡ true →
+        r ≡ historyRefusal room held (typedRow t)) ⌝ }
 {
-    if undoes_more(held, form) {
+    let class = row.class;
+    if undoes_more(held, class, row.number) {
         return 12;
     }
     let all = places_of(room);
     if all < held {
         return 13;
     }
-    if all - held < gate_count(form) {
+    let gates = row.gates;
+    if all - held < gate_count(gates) {
         return 13;
     }
     0
 }
 
-// The number that the reader found: the places Line and Form.
-fn of_form(form: Form) -> u8
-    ensures { λ r. ⌜ r ≡ formRefusal form ⌝ }
+// The places after the line's form, in turn.
+fn in_places(
+    loaded: bool,
+    summing: bool,
+    m: usize,
+    room: usize,
+    held: usize,
+    line: &[u8],
+    row: HeldRow,
+) -> u8
+    requires { ⌜ m ≤ 16 ⌝ }
+    ensures { λ r. ⌜ ((t : Typed) → Tells (now (line .entry)) t row → r ≡ rowRefusal loaded summing m room held (typedRow t)) ⌝ }
 {
-    if let Form::Refused(e) = form { e } else { 0 }
+    let class = row.class;
+    let at_moment = moment(loaded, summing, class);
+    if at_moment != 0 {
+        return at_moment;
+    }
+    let of_operands = operands(m, line, row);
+    if of_operands != 0 {
+        return of_operands;
+    }
+    in_history(room, held, row)
+}
+
+// No circuit has more than 16 positions.
+fn positions(m: usize) -> usize
+    ensures { λ r. ⌜ r ≡ min m 16 ⌝ }
+{
+    if 16 < m { 16 } else { m }
 }
 
 // The refusal of a line, over all places in turn.
@@ -280,20 +307,12 @@ pub(crate) fn refusal(
     line: &[u8],
     form: Form,
 ) -> u8
-    requires { ⌜ form ≡ formOf (now line) ⌝ }
-    ensures { λ r. ⌜ r ≡ refusalBy loaded summing m room held form (lineGates form (now (line .entry))) ⌝ }
+    requires { ⌜ form ≡ heldReading (readingOf (now line)) ⌝ }
+    ensures { λ r. ⌜ r ≡ refusalBy loaded summing (min m 16) room held (readingOf (now (line .entry))) ⌝ }
 {
-    let in_form = of_form(form);
-    if in_form != 0 {
-        return in_form;
+    let row = row_of(form);
+    match row {
+        FormRow::Row(r) => in_places(loaded, summing, positions(m), room, held, line, r),
+        FormRow::Refused(e) => e,
     }
-    let at_moment = moment(loaded, summing, form);
-    if at_moment != 0 {
-        return at_moment;
-    }
-    let of_operands = operands(m, line, form);
-    if of_operands != 0 {
-        return of_operands;
-    }
-    in_history(room, held, form)
 }
