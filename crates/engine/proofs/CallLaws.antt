@@ -18,16 +18,14 @@ use Rattle.circuit.specs.Words.{wordsOf}
 use Rattle.circuit.specs.Listing.{listing, entryOf}
 use Rattle.circuit.proofs.Gates.{ccz-positions, cz-positions, cnot-positions}
 use Rattle.circuit.proofs.TermGates.{entry-gate}
-use Rattle.lines.specs.declared.Form.{Form}
-use Rattle.lines.specs.Forms.{formOf}
+use Rattle.lines.specs.Spelling.{readingOf}
 use Rattle.answers.specs.declared.Answer.{Answer}
 use Rattle.answers.specs.declared.Answer.the-variants as Answer
 use Rattle.answers.specs.Answers.{bytesOf, infront, Written}
 use Rattle.answers.proofs.Lengths.{ModestGate, answer-fits}
 use Rattle.engine.specs.declared.State.{State}
 use Rattle.engine.specs.Engine.{Loaded, absent, present, Engine}
-use Rattle.refusals.specs.Refusals.{lineGates}
-use Rattle.engine.specs.Response.{gatesOf}
+use Rattle.engine.specs.Response.{circuitOf, gatesOf}
 use Rattle.engine.specs.State.{encodeLoaded, encode, Holds}
 use Rattle.engine.specs.Calls.{refusalNumber, hasLines, answering, tooShort, skipped, response, Given, entryBytes, lineNumbered, laterLine, fetchedBytes, FetchGiven}
 use Rattle.engine.specs.Turns.{Turned}
@@ -73,14 +71,13 @@ module _ (e : Engine) (s : State) (h line buffer : List ℕ) (held : Holds e s h
         record { state = rw (t, r) (relisted (e .loaded) (e .listed) false s (held .state)); len = rw (t, r); refusal = rw (t, r); history = rw (t, r); stands = rw (t, r) }
 
     pub given-answer :
-        64 ≤ length buffer → (form : Form) (s' : State) (a : Answer) (h' : List ℕ) (count : ℕ) (buffer' : List ℕ) (lines : Bool) (number : ℕ) →
-        form ≡ formOf line → Turned e h form (lineGates form line) s' a h' → Written (bytesOf a) buffer count buffer' → lines ≡ hasLines a → number ≡ refusalNumber a →
+        64 ≤ length buffer → (s' : State) (a : Answer) (h' : List ℕ) (count : ℕ) (buffer' : List ℕ) (lines : Bool) (number : ℕ) →
+        Turned e h (readingOf line) s' a h' → Written (bytesOf a) buffer count buffer' → lines ≡ hasLines a → number ≡ refusalNumber a →
         Given e h line buffer (record { state = withLines s' lines; len = count; refusal = number }) h' buffer'
     unfolding response answering encode
-    given-answer l form s' a h' count buffer' lines number is turned w m n =
+    given-answer l s' a h' count buffer' lines number d w m n =
         let t : eqb (length line) 0 ≡ false = ne-eqb (length line) 0 some in
         let r : ltb (length buffer) 64 ≡ false = le-ltb (length buffer) 64 l in
-        let d : Turned e h (formOf line) (lineGates (formOf line) line) s' a h' = rw is at turned in
         let whole = written-whole _ buffer count buffer' (rw (d .answer) (turn-fits (e .loaded) (length h) line (held .sound))) l w in
         record {
           state = rw (t, r, ← d .answer, m) (relisted _ (e .listed) (hasLines a) s' (d .state));
@@ -93,7 +90,7 @@ module _ (e : Engine) (s : State) (h line buffer : List ℕ) (held : Holds e s h
 -- ---- a fetch
 
 words-held : (x : Loaded) (l : Bool) → encodeLoaded x l .polynomial ≡ wordsOf (polynomial (gatesOf x))
-unfolding encodeLoaded gatesOf polynomial appliedAll
+unfolding encodeLoaded circuitOf polynomial appliedAll
 words-held absent l = refl
 words-held (present c o) l = refl
 

@@ -1,7 +1,7 @@
 -- Every call leaves a state and a history that hold an engine: what a line does keeps the engine sound and its gates' codes in the history.
 use mathlib.Core.Path.{_≡_, refl, ap, _∙_}
 use mathlib.Core.Bool.{Bool, true, false, cond}
-use mathlib.Core.List.{List, _++_, map, map-append, append-assoc}
+use mathlib.Core.List.{List, [], _∷_, _++_, map, map-append, append-assoc}
 use Prim.Native.Nat.{ℕ, suc, _+_, _-_, _≤_}
 use native.Mathlib.Omega.{arith}
 use lib.Dec.{eqb, ltb}
@@ -12,51 +12,41 @@ use borrow.Author.Tests.{ne-eqb}
 use Rattle.circuit.specs.declared.Gate.{Gate}
 use Rattle.circuit.specs.Sum.{areGates}
 use Rattle.circuit.specs.History.{codeOf}
-use Rattle.lines.specs.declared.Form.{Form}
-use Rattle.lines.specs.Spelling.{anyColourTwice}
-use Rattle.lines.specs.Forms.{formOf}
+use Rattle.lines.specs.Typed.{row}
+use Rattle.lines.specs.Spelling.{Reading, gatesIn, readingOf}
 use Rattle.answers.specs.declared.Answer.{Answer}
 use Rattle.engine.specs.declared.State.{State}
 use Rattle.engine.specs.declared.Reply.{Reply}
 use Rattle.engine.specs.Engine.{Loaded, Engine, freshEngine, Sound}
-use Rattle.refusals.specs.Refusals.{lineGates, places}
-use Rattle.engine.specs.Response.{gatesOf}
+use Rattle.refusals.specs.Refusals.{places}
+use Rattle.engine.specs.Response.{circuitOf, gatesOf}
 use Rattle.engine.specs.State.{encode, Holds}
 use Rattle.engine.specs.Calls.{refusalNumber, stored, answering, tooShort, skipped, Response, response, Given}
-use Rattle.engine.proofs.Views.{View, refuses, passesBy, creates, adds, takesBack, starts, opensAmplitude, opensReadout, worksOn, finishes, drops, lists, view}
-use Rattle.engine.proofs.LineColours.{line-colours}
+use Rattle.engine.proofs.Views.{Building, one, many, View, refuses, creates, adds, takesBack, starts, opensAmplitude, opensReadout, worksOn, finishes, drops, lists, view}
 use Rattle.engine.proofs.GateHistory.{stored-none, length-stored, codes-front}
 use Rattle.engine.proofs.TurnRefused.{total-number}
-use Rattle.engine.proofs.HeldGates.{gates-by-tests, gates-added, gates-left}
+use Rattle.engine.proofs.HeldGates.{gates-added, gates-left}
 
 -- ---- soundness
 
-sound-kept :
-    {room : ℕ} {l : List ℕ} {e e' : Loaded} {f : Form} {a : Answer} → View room l e f e' a → anyColourTwice (lineGates f l) ≡ false →
-    Sound e → Sound e'
+sound-kept : {room : ℕ} {e e' : Loaded} {r : Reading} {a : Answer} → View room e r e' a → Sound e → Sound e'
 unfolding areGates
-sound-kept refuses t s = s
-sound-kept passesBy t s = s
-sound-kept (creates i low high) t s = record { least = low; most = high; gates = refl; opened = tt }
-sound-kept {l = l} {f = f} (adds {c = c} g r i w) t s =
-    record {
-      least = s .least;
-      most = s .most;
-      gates = gates-added (c .m) (c .gates) (lineGates f l) (s .gates) (gates-by-tests (c .m) (lineGates f l) r i t);
-      opened = tt;
-    }
-sound-kept (takesBack {c = c} {k = k}) t s =
+sound-kept refuses s = s
+sound-kept (creates i low high) s = record { least = low; most = high; gates = refl; opened = tt }
+sound-kept (adds {c = c} {gs = gs} g v w) s =
+    record { least = s .least; most = s .most; gates = gates-added (c .m) (c .gates) gs (s .gates) v; opened = tt }
+sound-kept (takesBack {c = c} {k = k}) s =
     record { least = s .least; most = s .most; gates = gates-left (c .m) (length (c .gates) - k) (c .gates) (s .gates); opened = tt }
-sound-kept (starts r b g) t s = record { least = s .least; most = s .most; gates = s .gates; opened = tt }
-sound-kept (opensAmplitude {c = c} r b g) t s =
+sound-kept (starts r b g) s = record { least = s .least; most = s .most; gates = s .gates; opened = tt }
+sound-kept (opensAmplitude {c = c} r b g) s =
     record { least = s .least; most = s .most; gates = s .gates; opened = record { gates = s .gates; worked = pow-pos (c .m) } }
-sound-kept (opensReadout {c = c} x y) t s =
+sound-kept (opensReadout {c = c} x y) s =
     record { least = s .least; most = s .most; gates = s .gates; opened = record { gates = s .gates; worked = pow-pos (c .m) } }
-sound-kept (worksOn w) t s =
+sound-kept (worksOn w) s =
     record { least = s .least; most = s .most; gates = s .gates; opened = record { gates = s .opened .gates; worked = w } }
-sound-kept (finishes w) t s = record { least = s .least; most = s .most; gates = s .gates; opened = tt }
-sound-kept drops t s = record { least = s .least; most = s .most; gates = s .gates; opened = tt }
-sound-kept lists t s = record { least = s .least; most = s .most; gates = s .gates; opened = tt }
+sound-kept (finishes w) s = record { least = s .least; most = s .most; gates = s .gates; opened = tt }
+sound-kept drops s = record { least = s .least; most = s .most; gates = s .gates; opened = tt }
+sound-kept lists s = record { least = s .least; most = s .most; gates = s .gates; opened = tt }
 
 -- ---- the history
 
@@ -85,17 +75,17 @@ stored-less gs k h s =
     }
 
 -- The history after a line: its gates are stored unless it is refused.
-unfoldable historyAfter : Loaded → Form → List ℕ → Answer → List ℕ → List ℕ
-historyAfter e f l a h = cond (eqb (refusalNumber a) 0) (stored (length (gatesOf e)) (lineGates f l) h) h
+unfoldable historyAfter : Loaded → Reading → Answer → List ℕ → List ℕ
+historyAfter e r a h = cond (eqb (refusalNumber a) 0) (stored (length (gatesOf e)) (gatesIn r) h) h
 
 stored-kept :
-    {l h : List ℕ} {e e' : Loaded} {f : Form} {a : Answer} → View (length h) l e f e' a → Stored (gatesOf e) h →
-    Stored (gatesOf e') (historyAfter e f l a h)
-unfolding historyAfter refusalNumber lineGates gatesOf
+    {h : List ℕ} {e e' : Loaded} {r : Reading} {a : Answer} → View (length h) e r e' a → Stored (gatesOf e) h →
+    Stored (gatesOf e') (historyAfter e r a h)
+unfolding historyAfter refusalNumber gatesIn row circuitOf
 stored-kept (refuses {n = n}) s = rw (ne-eqb (suc n) 0 (λ z. omega arith)) s
-stored-kept {h = h} {e = e} passesBy s = rw (stored-none (length (gatesOf e)) h) s
 stored-kept {h = h} {e = e} (creates i low high) s = rw (stored-none (length (gatesOf e)) h) (record { codes = refl; room = omega arith })
-stored-kept {l = l} {h = h} {f = f} (adds {c = c} g r i w) s = stored-more (c .gates) (lineGates f l) h s w
+stored-kept {h = h} (adds {c = c} (one {g}) v w) s = stored-more (c .gates) (g ∷ []) h s w
+stored-kept {h = h} (adds {c = c} (many {gs}) v w) s = stored-more (c .gates) gs h s w
 stored-kept {h = h} (takesBack {c = c} {k = k}) s = rw (stored-none (length (c .gates)) h) (stored-less (c .gates) k h s)
 stored-kept {h = h} (starts {c = c} r b g) s = rw (stored-none (length (c .gates)) h) s
 stored-kept {h = h} (opensAmplitude {c = c} r b g) s = rw (stored-none (length (c .gates)) h) s
@@ -108,7 +98,7 @@ stored-kept {h = h} (lists {c = c}) s = rw (stored-none (length (c .gates)) h) s
 -- ---- an engine is held
 
 pub fresh-held : (h : List ℕ) → Holds freshEngine (encode freshEngine) h
-unfolding freshEngine gatesOf
+unfolding freshEngine circuitOf
 fresh-held h = record { state = refl; codes = refl; room = omega arith; sound = tt }
 
 module _ (e : Engine) (s : State) (h : List ℕ) (held : Holds e s h) where
@@ -118,10 +108,9 @@ module _ (e : Engine) (s : State) (h : List ℕ) (held : Holds e s h) where
   answering-held : (line : List ℕ) → Held (answering e h line)
   unfolding answering historyAfter
   answering-held line =
-      let f = formOf line in
-      let v = view (length h) line (e .loaded) f in
+      let v = view (length h) line (e .loaded) in
       let k = stored-kept v (record { codes = held .codes; room = held .room }) in
-      record { state = refl; codes = k .codes; room = k .room; sound = sound-kept v (line-colours line) (held .sound) }
+      record { state = refl; codes = k .codes; room = k .room; sound = sound-kept v (held .sound) }
 
   response-held : (line : List ℕ) (room : ℕ) → Held (response e h line room)
   unfolding response skipped tooShort

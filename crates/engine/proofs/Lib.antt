@@ -1,7 +1,6 @@
 pub mod Passing
-pub mod Views
-pub mod LineColours
 pub mod HeldGates
+pub mod Views
 pub mod Keeping
 pub mod Outcomes
 pub mod GateLists

@@ -11,7 +11,7 @@ use Rattle.circuit.specs.declared.Entry.{Entry}
 use Rattle.circuit.specs.declared.Entry.the-variants.{Listed as ListedAt, Nothing}
 use Rattle.circuit.specs.Polynomial.{polynomial}
 use Rattle.circuit.specs.Listing.{listing, entryOf}
-use Rattle.lines.specs.Forms.{formOf}
+use Rattle.lines.specs.Spelling.{readingOf}
 use Rattle.answers.specs.declared.Answer.{Answer}
 use Rattle.answers.specs.declared.Answer.the-variants as Answer
 use Rattle.answers.specs.Answers.{bytesOf, infront}
@@ -25,7 +25,7 @@ use Rattle.engine.proofs.Views.{View, view}
 -- A line that is skipped, or whose buffer is too short, has no answer and leaves the engine; any other has its answer's bytes.
 pub data Outcome (room : ℕ) (line : List ℕ) (e : Loaded) : Loaded → List ℕ → Type 0 where
   silent : Outcome room line e e []
-  spoken : {e' : Loaded} {a : Answer} → View room line e (formOf line) e' a → Outcome room line e e' (bytesOf a)
+  spoken : {e' : Loaded} {a : Answer} → View room e (readingOf line) e' a → Outcome room line e e' (bytesOf a)
 
 abbrev OutcomeOf : Engine → List ℕ → List ℕ → Response → Type 0
 OutcomeOf e h line r = Outcome (length h) line (e .loaded) (r .after .loaded) (r .bytes)
@@ -37,7 +37,7 @@ outcome e h line room = go (eqb (length line) 0) (ltb room 64)
     go : (p q : Bool) → OutcomeOf e h line (cond p (skipped e h) (cond q (tooShort e h) (answering e h line)))
     go true q = silent
     go false true = silent
-    go false false = spoken (view (length h) line (e .loaded) (formOf line))
+    go false false = spoken (view (length h) line (e .loaded))
 
 -- The answer's bytes stand at the front of the buffer.
 pub bytes-given :

@@ -1,14 +1,14 @@
 -- A line that no place turns back: what each of the tests says that found nothing.
 use mathlib.Core.Path.{_≡_, refl}
 use mathlib.Core.Bool.{Bool, true, false, not, _&&_, _||_, true≢false}
-use mathlib.Core.List.{List}
 use Prim.Native.Nat.{ℕ, zero, suc, _+_, _≤_}
 use lib.ListN.{length}
-use borrow.Author.Tests.{ltb-false}
+use borrow.Author.Tests.{ltb-false, not-false}
+use Rattle.gf2.proofs.Bits.{and-both}
 use Rattle.gf2.proofs.Impossible.{never}
-use Rattle.circuit.specs.declared.Gate.{Gate}
-use Rattle.lines.specs.declared.Form.{Form}
-use Rattle.refusals.specs.Refusals.{orElse, refusedIf, isCircuit, works, momentRefusal, anyOnItself, outOfRange, wrongLength, operandRefusal, places, undoesMore, historyRefusal, formRefusal, refusalBy}
+use Rattle.lines.specs.declared.Class.the-variants as Class
+use Rattle.lines.specs.Typed.{Row}
+use Rattle.refusals.specs.Refusals.{orElse, refusedIf, isClass, works, momentRefusal, within, allInRange, anyOnItself, outOfRange, anyNotLong, operandRefusal, places, undoesMore, historyRefusal, rowRefusal}
 
 -- No number of two tests: neither found one.
 or-else-none : (a b : ℕ) → orElse a b ≡ 0 → (a ≡ 0) × (b ≡ 0)
@@ -26,38 +26,36 @@ pub or-none : (a b : Bool) → a || b ≡ false → (a ≡ false) × (b ≡ fals
 or-none true b h = absurd (true≢false h)
 or-none false b h = (refl, h)
 
-pub record Passes (loaded summing : Bool) (m room held : ℕ) (form : Form) (gs : List Gate) : Type 0 where
-  pub read : formRefusal form ≡ 0
-  pub loading : not loaded && not (isCircuit form) ≡ false
-  pub waiting : summing && not (works form) ≡ false
-  pub working : not summing && works form ≡ false
-  pub ranges : outOfRange m form gs ≡ false
-  pub targets : anyOnItself gs ≡ false
-  pub lengths : wrongLength m form ≡ false
-  pub undone : undoesMore held form ≡ false
-  pub fits : held + length gs ≤ places room
+pub record Passes (loaded summing : Bool) (m room held : ℕ) (r : Row) : Type 0 where
+  pub loading : not loaded && not (isClass Class.Creates (r .class)) ≡ false
+  pub waiting : summing && not (works (r .class)) ≡ false
+  pub working : not summing && works (r .class) ≡ false
+  pub number : within (r .least) (r .most) (r .number) ≡ true
+  pub inside : allInRange m (r .gates) ≡ true
+  pub targets : anyOnItself (r .gates) ≡ false
+  pub lengths : anyNotLong m (r .strings) ≡ false
+  pub undone : undoesMore held r ≡ false
+  pub fits : held + length (r .gates) ≤ places room
 
-pub passes :
-    (loaded summing : Bool) (m room held : ℕ) (form : Form) (gs : List Gate) → refusalBy loaded summing m room held form gs ≡ 0 →
-    Passes loaded summing m room held form gs
-unfolding refusalBy momentRefusal operandRefusal historyRefusal
-passes loaded summing m room held form gs h =
-    let f = or-else-none (formRefusal form) _ h in
-    let p = or-else-none (momentRefusal loaded summing form) _ (f .1) in
-    let q = or-else-none (operandRefusal m form gs) (historyRefusal room held form gs) (p .1) in
-    let six = or-else-none (refusedIf (not loaded && not (isCircuit form)) 6) _ (p .0) in
-    let seven = or-else-none (refusedIf (summing && not (works form)) 7) _ (six .1) in
-    let nine = or-else-none (refusedIf (outOfRange m form gs) 9) _ (q .0) in
-    let ten = or-else-none (refusedIf (anyOnItself gs) 10) _ (nine .1) in
-    let twelve = or-else-none (refusedIf (undoesMore held form) 12) _ (q .1) in
+pub passes : (loaded summing : Bool) (m room held : ℕ) (r : Row) → rowRefusal loaded summing m room held r ≡ 0 → Passes loaded summing m room held r
+unfolding rowRefusal momentRefusal operandRefusal outOfRange historyRefusal
+passes loaded summing m room held r h =
+    let p = or-else-none (momentRefusal loaded summing (r .class)) _ h in
+    let q = or-else-none (operandRefusal m r) (historyRefusal room held r) (p .1) in
+    let six = or-else-none (refusedIf (not loaded && not (isClass Class.Creates (r .class))) 6) _ (p .0) in
+    let seven = or-else-none (refusedIf (summing && not (works (r .class))) 7) _ (six .1) in
+    let nine = or-else-none (refusedIf (outOfRange m r) 9) _ (q .0) in
+    let ten = or-else-none (refusedIf (anyOnItself (r .gates)) 10) _ (nine .1) in
+    let twelve = or-else-none (refusedIf (undoesMore held r) 12) _ (q .1) in
+    let ranges = and-both (within (r .least) (r .most) (r .number)) (allInRange m (r .gates)) (not-false _ (not-refused _ 8 (nine .0))) in
     record {
-      read = f .0;
       loading = not-refused _ 5 (six .0);
       waiting = not-refused _ 6 (seven .0);
       working = not-refused _ 7 (seven .1);
-      ranges = not-refused _ 8 (nine .0);
+      number = ranges .0;
+      inside = ranges .1;
       targets = not-refused _ 9 (ten .0);
       lengths = not-refused _ 10 (ten .1);
       undone = not-refused _ 11 (twelve .0);
-      fits = ltb-false (places room) (held + length gs) (not-refused _ 12 (twelve .1));
+      fits = ltb-false (places room) (held + length (r .gates)) (not-refused _ 12 (twelve .1));
     }

@@ -9,24 +9,21 @@ use native.Mathlib.Omega.{arith}
 use lib.Dec.{ltb}
 use lib.ListN.{length, getD, take}
 use borrow.Author.Tests.{ne-eqb, le-ltb}
-use Rattle.gf2.proofs.Impossible.{never}
 use Rattle.circuit.specs.Polynomial.{Term, term, polynomial}
 use Rattle.circuit.specs.Listing.{listing, occurrences, gateOfTerm, entryOf}
 use Rattle.circuit.proofs.Entries.{entryOf-past, entryOf-getD}
 use Rattle.circuit.proofs.EveryTermOnce.{listing-once}
 use Rattle.circuit.proofs.MorePositions.{listing-16}
-use Rattle.text.specs.Reading.{readKeyword, begins}
-use Rattle.text.specs.Spelling.{spelledGate}
-use Rattle.lines.specs.declared.Form.{Form}
-use Rattle.lines.specs.declared.Form.the-variants as Form
-use Rattle.lines.specs.Gates.{readGate}
-use Rattle.lines.specs.Forms.{allAllowed, gateLine, shapeOf, formOf}
+use Rattle.text.specs.Spelling.{bytes, spelledGate}
+use Rattle.lines.specs.Typed.{terms, row}
+use Rattle.lines.specs.Spelling.{spelled, form as typed, readingOf}
+use Rattle.lines.proofs.Readings.{form-read}
 use Rattle.answers.specs.declared.Answer.the-variants as Answer
 use Rattle.answers.specs.Answers.{bytesOf}
+use Rattle.refusals.specs.Refusals.{orElse, refusedIf, classNumber, isClass, works, momentRefusal, within, allInRange, anyOnItself, outOfRange, anyNotLong, operandRefusal, places, undoesMore, historyRefusal, rowRefusal, refusalBy}
 use Rattle.engine.specs.declared.Reply.{Reply}
 use Rattle.engine.specs.Engine.{Circuit, closed, running, Loaded, absent, present, Engine, Sound, SoundCircuit}
-use Rattle.refusals.specs.Refusals.{orElse, refusedIf, isCircuit, works, lineGates, momentRefusal, anyOnItself, outOfRange, wrongLength, operandRefusal, places, undoesMore, historyRefusal, formRefusal, refusalBy}
-use Rattle.engine.specs.Response.{termsOf, accepted, hasCircuit, isRunning, sumOpen, gatesOf, refusalOf, acceptedBy, turnBy, turnOf}
+use Rattle.engine.specs.Response.{termsOf, accepted, hasCircuit, circuitOf, openedOf, isRunning, refusalOf, turnBy, turnOf}
 use Rattle.engine.specs.Calls.{refusalNumber, hasLines, answering, tooShort, response, Given, entryBytes, lineNumbered, laterLine, fetchedBytes}
 use Rattle.engine.proofs.Outcomes.{bytes-given}
 
@@ -69,7 +66,7 @@ module _ (c : Circuit) (sound : SoundCircuit c closed) where
   all-terms = listing-16 (c .m) (c .gates) (sound .gates) (sound .most)
 
   later : (n : ℕ) → laterLine (listing-on c) (suc n) ≡ entryBytes (entryOf (termsIn c) n)
-  unfolding laterLine lineNumbered gatesOf
+  unfolding laterLine lineNumbered circuitOf
   later n = ap (λ (l : List Term). entryBytes (entryOf l n)) all-terms
 
   line-listed : (n room : ℕ) → 64 ≤ room → n < length (termsIn c) → fetchedBytes (listing-on c) (n + 1) room ≡ spelledTerm (getD (termsIn c) n (term 0 0 0))
@@ -83,41 +80,41 @@ module _ (c : Circuit) (sound : SoundCircuit c closed) where
 
 -- ---- the turn
 
-terms-turn : (x : Loaded) (room : ℕ) → refusalNumber (turnOf x room Form.Terms [] .answer) ≡ 0 → (c : Circuit) × (x ≡ present c closed) × (turnOf x room Form.Terms [] ≡ termsOf c closed)
-unfolding turnOf turnBy refusalOf refusalBy hasCircuit sumOpen isRunning formRefusal momentRefusal orElse refusedIf isCircuit works operandRefusal outOfRange anyOnItself wrongLength historyRefusal undoesMore refusalNumber acceptedBy accepted
+terms-turn :
+    (x : Loaded) (room : ℕ) → refusalNumber (turnOf x room (typed terms) .answer) ≡ 0 →
+    (c : Circuit) × (x ≡ present c closed) × (turnOf x room (typed terms) ≡ termsOf c closed)
+unfolding turnOf turnBy refusalOf refusalBy rowRefusal row hasCircuit circuitOf openedOf isRunning momentRefusal orElse refusedIf isClass classNumber works operandRefusal outOfRange within allInRange anyOnItself anyNotLong historyRefusal undoesMore refusalNumber accepted
 terms-turn absent room h = absurd (omega arith)
 terms-turn (present c (running o)) room h = absurd (omega arith)
-terms-turn (present c closed) room h = go (ltb (places room) (length (gatesOf (present c closed)) + 0)) h
+terms-turn (present c closed) room h = go (ltb (places room) (length (c .gates) + 0)) h
   where
     go :
-        (b : Bool) → refusalNumber (turnBy (cond b 13 0) (present c closed) Form.Terms [] .answer) ≡ 0 →
-        (d : Circuit) × (present c closed ≡ present d closed) × (turnBy (cond b 13 0) (present c closed) Form.Terms [] ≡ termsOf d closed)
+        (b : Bool) → refusalNumber (turnBy (cond b 13 0) (present c closed) terms .answer) ≡ 0 →
+        (d : Circuit) × (present c closed ≡ present d closed) × (turnBy (cond b 13 0) (present c closed) terms ≡ termsOf d closed)
     go true h = absurd (omega arith)
     go false h = (c, refl, refl)
 
 -- ---- the call
 
 -- A line of no bytes is not read as `terms`.
-no-bytes : formOf [] ≡ Form.Refused 4
-unfolding formOf allAllowed shapeOf gateLine readGate readKeyword begins
-no-bytes = refl
+some-bytes : (line : List ℕ) → readingOf line ≡ typed terms → length line ≡ 0 → ⊥
+unfolding spelled
+some-bytes line is z =
+    let n : length line ≡ length (bytes "(terms)") = ap length (form-read line terms is .spells .is) in
+    omega arith
 
-some-bytes : (line : List ℕ) → formOf line ≡ Form.Terms → length line ≡ 0 → ⊥
-some-bytes [] is z = never (cc no-bytes)
-some-bytes (x ∷ line) is z = omega arith
-
-module _ (e : Engine) (h line : List ℕ) (sound : Sound (e .loaded)) (is : formOf line ≡ Form.Terms) where
-  terms-after : (c : Circuit) → turnOf (e .loaded) (length h) Form.Terms [] ≡ termsOf c closed → answering e h line .after ≡ listing-on c
-  unfolding answering lineGates termsOf hasLines
+module _ (e : Engine) (h line : List ℕ) (sound : Sound (e .loaded)) (is : readingOf line ≡ typed terms) where
+  terms-after : (c : Circuit) → turnOf (e .loaded) (length h) (typed terms) ≡ termsOf c closed → answering e h line .after ≡ listing-on c
+  unfolding answering termsOf hasLines
   terms-after c q = rw (is, q)
 
   terms-bytes :
-      (c : Circuit) → turnOf (e .loaded) (length h) Form.Terms [] ≡ termsOf c closed →
+      (c : Circuit) → turnOf (e .loaded) (length h) (typed terms) ≡ termsOf c closed →
       answering e h line .bytes ≡ bytesOf (Answer.Terms (length (listing 16 (polynomial (c .gates)))))
-  unfolding answering lineGates termsOf
+  unfolding answering termsOf
   terms-bytes c q = rw (is, q)
 
-  answered : (c : Circuit) → e .loaded ≡ present c closed → turnOf (e .loaded) (length h) Form.Terms [] ≡ termsOf c closed → TermsListed e c (answering e h line .bytes) (answering e h line .after)
+  answered : (c : Circuit) → e .loaded ≡ present c closed → turnOf (e .loaded) (length h) (typed terms) ≡ termsOf c closed → TermsListed e c (answering e h line .bytes) (answering e h line .after)
   unfolding laterLine lineNumbered
   answered c p q =
       let s : SoundCircuit c closed = rw p at sound in
@@ -132,8 +129,8 @@ module _ (e : Engine) (h line : List ℕ) (sound : Sound (e .loaded)) (is : form
         once = listing-once (c .m) (c .gates) (s .gates);
       })
 
-  terms-number : answering e h line .refusal ≡ refusalNumber (turnOf (e .loaded) (length h) Form.Terms [] .answer)
-  unfolding answering lineGates
+  terms-number : answering e h line .refusal ≡ refusalNumber (turnOf (e .loaded) (length h) (typed terms) .answer)
+  unfolding answering
   terms-number = rw is
 
   -- A line that is read as `terms` and not refused.

@@ -1,7 +1,6 @@
 -- What the engine answers is modest: refusals are numbered up to 13, sums are within 2^48, a listing has at most 4,864 terms. So every
 -- answer has room in 64 bytes.
 use mathlib.Core.Path.{_≡_, refl, ap, sym, _∙_, subst}
-use mathlib.Core.Logic.{_⊎_, inl, inr}
 use mathlib.Core.Bool.{Bool, true, false, cond}
 use mathlib.Core.List.{List, [], _∷_}
 use Prim.Native.Nat.{ℕ, zero, suc, _+_, _-_, _*_, _^_, _≤_, _<_}
@@ -12,23 +11,20 @@ use lib.IntN.{natAbs}
 use lib.ListN.{length, length-append}
 use lib.Pow.{pow-add, pow-lt}
 use Rattle.circuit.specs.declared.Colour.{Colour}
-use Rattle.circuit.specs.declared.Gate.{Gate}
-use Rattle.circuit.specs.declared.Gate.the-variants as Gate
 use Rattle.circuit.specs.Sum.{Basis}
 use Rattle.circuit.specs.Polynomial.{Term, Polynomial, polynomial}
 use Rattle.circuit.specs.Listing.{overPositions, triples, pairsBeside, everyTerm, among, listing}
 use Rattle.slices.specs.Totals.{amplitudeAfter}
 use Rattle.slices.proofs.Bounds.{amplitudeAfter-bound, readoutCount-bound}
-use Rattle.lines.specs.declared.Form.{Form}
-use Rattle.lines.specs.declared.Form.the-variants as Form
-use Rattle.lines.specs.Spelling.{Typed, circuit, gate, layer, undo, start, amp, part, step, drop, terms, twiceIn, heldGate, gateForm, held}
-use Rattle.lines.specs.Forms.{allAllowed, shapeOf, formOf}
-use Rattle.lines.proofs.FormReading.{readAs, Spelling, read-spelled, spelled-read}
+use Rattle.lines.specs.Typed.{amp, part, Typed, circuit, gate, layer, undo, start, sum, step, drop, terms}
+use Rattle.lines.specs.Spelling.{Reading, form as typed, refused, readingOf}
+use Rattle.lines.proofs.Readings.{refused-among}
 use Rattle.answers.specs.Answers.{bytesOf}
 use Rattle.answers.proofs.Lengths.{Modest, answer-fits}
-use Rattle.engine.specs.Engine.{Circuit, Purpose, amplitude, readout, OpenSum, Opened, closed, running, Loaded, absent, present, Sound}
-use Rattle.refusals.specs.Refusals.{orElse, refusedIf, lineGates, momentRefusal, operandRefusal, historyRefusal, formRefusal, refusalBy}
-use Rattle.engine.specs.Response.{Turn, newCircuit, withGates, withoutLast, withNewStart, opening, total, stepped, stepOf, termsOf, accepted, refusalOf, acceptedBy, turnBy, turnOf}
+use Rattle.refusals.specs.Refusals.{orElse, refusedIf, momentRefusal, operandRefusal, historyRefusal, rowRefusal, refusalBy}
+use Rattle.engine.specs.Engine.{Circuit, Purpose, amplitude, readout, OpenSum, Opened, closed, running, Loaded, Sound}
+use Rattle.engine.specs.Response.{Turn, newCircuit, withGates, withoutLast, withNewStart, opening, total, stepped, stepOf, withoutSum, termsOf, accepted, circuitOf, openedOf, refusalOf, turnBy, turnOf}
+use Rattle.engine.proofs.TurnRefused.{positions-most}
 
 -- ---- refusals
 
@@ -42,60 +38,19 @@ unfolding refusedIf
 refused-if-most n e true h = h
 refused-if-most n e false h = omega arith
 
-gate-number : (g : Gate) → formRefusal (gateForm g) ≡ 0
-unfolding formRefusal gateForm
-gate-number (Gate.Ccz i j k) = refl
-gate-number (Gate.Cz p q) = refl
-gate-number (Gate.Cnot C c t) = refl
-
-held-number : (t : Typed) → formRefusal (held t) ≡ 0
-unfolding formRefusal held
-held-number (circuit m) = refl
-held-number (gate g) = gate-number (heldGate g)
-held-number (layer gs) = refl
-held-number (undo k) = refl
-held-number (start r b g) = refl
-held-number (amp C r b g) = refl
-held-number (part C x y) = refl
-held-number (step k) = refl
-held-number drop = refl
-held-number terms = refl
-
-read-number : (t : Typed) → formRefusal (readAs t) ≤ 5
-unfolding formRefusal
-read-number t = go (twiceIn t)
+-- "A refused line gets one number from document 01's table".
+pub refusal-most : (e : Loaded) (room : ℕ) (l : List ℕ) → refusalOf e room (readingOf l) ≤ 13
+unfolding refusalOf refusalBy rowRefusal momentRefusal operandRefusal historyRefusal
+refusal-most e room l = go (readingOf l) refl
   where
-    go : (b : Bool) → formRefusal (cond b (Form.Refused 5) (held t)) ≤ 5
-    go true = omega arith
-    go false = omega (arith, held-number t)
-
-shape-number : (l : List ℕ) → formRefusal (shapeOf l) ≤ 5
-unfolding formRefusal
-shape-number l = go (spelled-read l)
-  where
-    go : (shapeOf l ≡ Form.Refused 4) ⊎ Spelling l → formRefusal (shapeOf l) ≤ 5
-    go (inl e) = rw e (omega arith)
-    go (inr s) = rw (ap shapeOf (s .is) ∙ read-spelled (s .typed) (s .well)) (read-number (s .typed))
-
--- Refusals of a line's reading are numbered up to 5.
-form-number : (l : List ℕ) → formRefusal (formOf l) ≤ 5
-unfolding formOf formRefusal
-form-number l = go (ltb 1024 (length l)) (allAllowed l)
-  where
-    go : (p q : Bool) → formRefusal (cond p (Form.Refused 2) (cond q (shapeOf l) (Form.Refused 3))) ≤ 5
-    go true q = omega arith
-    go false true = shape-number l
-    go false false = omega arith
-
-refusal-most : (loaded summing : Bool) (m room held : ℕ) (form : Form) (gs : List Gate) → formRefusal form ≤ 5 → refusalBy loaded summing m room held form gs ≤ 13
-unfolding refusalBy momentRefusal operandRefusal historyRefusal
-refusal-most loaded summing m room held form gs h =
-    or-else-most 13 _ _ (omega arith)
-    (or-else-most 13 _ _
-    (or-else-most 13 _ _ (refused-if-most 13 6 _ (omega arith)) (or-else-most 13 _ _ (refused-if-most 13 7 _ (omega arith)) (refused-if-most 13 8 _ (omega arith))))
-    (or-else-most 13 _ _
-    (or-else-most 13 _ _ (refused-if-most 13 9 _ (omega arith)) (or-else-most 13 _ _ (refused-if-most 13 10 _ (omega arith)) (refused-if-most 13 11 _ (omega arith))))
-    (or-else-most 13 _ _ (refused-if-most 13 12 _ (omega arith)) (refused-if-most 13 13 _ (omega arith)))))
+    go : (r : Reading) → readingOf l ≡ r → refusalOf e room r ≤ 13
+    go (refused n) is = let k = refused-among l n is in omega arith
+    go (typed t) is =
+        or-else-most 13 _ _
+        (or-else-most 13 _ _ (refused-if-most 13 6 _ (omega arith)) (or-else-most 13 _ _ (refused-if-most 13 7 _ (omega arith)) (refused-if-most 13 8 _ (omega arith))))
+        (or-else-most 13 _ _
+        (or-else-most 13 _ _ (refused-if-most 13 9 _ (omega arith)) (or-else-most 13 _ _ (refused-if-most 13 10 _ (omega arith)) (refused-if-most 13 11 _ (omega arith))))
+        (or-else-most 13 _ _ (refused-if-most 13 12 _ (omega arith)) (refused-if-most 13 13 _ (omega arith))))
 
 -- ---- a listing's length
 
@@ -164,43 +119,33 @@ step-modest c closed k h = tt
 step-modest c (running o) k h =
     either-modest (ltb (o .worked + k) (2 ^ c .m)) _ _ (left-modest (c .m) (2 ^ c .m - (o .worked + k)) h (omega arith)) (total-modest (c .m) o (o .purpose) h)
 
-accepted-modest : (x : Loaded) (form : Form) (gs : List Gate) → Sound x → formRefusal form ≤ 5 → Modest (acceptedBy x form gs .answer)
-unfolding acceptedBy accepted newCircuit withGates withoutLast withNewStart opening termsOf formRefusal
-accepted-modest absent (Form.Circuit m) gs s h = tt
-accepted-modest absent (Form.Ccz i j k) gs s h = tt
-accepted-modest absent (Form.Cz p q) gs s h = tt
-accepted-modest absent (Form.Cnot C c t) gs s h = tt
-accepted-modest absent (Form.Layer n) gs s h = tt
-accepted-modest absent (Form.Undo k) gs s h = tt
-accepted-modest absent (Form.Start a b g) gs s h = tt
-accepted-modest absent (Form.Amp C a b g) gs s h = tt
-accepted-modest absent (Form.Part C x y) gs s h = tt
-accepted-modest absent (Form.Step k) gs s h = tt
-accepted-modest absent Form.Drop gs s h = tt
-accepted-modest absent Form.Terms gs s h = tt
-accepted-modest absent (Form.Refused n) gs s h = omega arith
-accepted-modest (present c o) (Form.Circuit m) gs s h = tt
-accepted-modest (present c o) (Form.Ccz i j k) gs s h = tt
-accepted-modest (present c o) (Form.Cz p q) gs s h = tt
-accepted-modest (present c o) (Form.Cnot C i t) gs s h = tt
-accepted-modest (present c o) (Form.Layer n) gs s h = tt
-accepted-modest (present c o) (Form.Undo k) gs s h = tt
-accepted-modest (present c o) (Form.Start a b g) gs s h = tt
-accepted-modest (present c o) (Form.Amp C a b g) gs s h = left-modest (c .m) (2 ^ c .m) (s .most) (le-refl _)
-accepted-modest (present c o) (Form.Part C x y) gs s h = left-modest (c .m) (2 ^ c .m) (s .most) (le-refl _)
-accepted-modest (present c o) (Form.Step k) gs s h = step-modest c o k (s .most)
-accepted-modest (present c o) Form.Drop gs s h = tt
-accepted-modest (present c o) Form.Terms gs s h = omega (arith, listing-most (polynomial (c .gates)))
-accepted-modest (present c o) (Form.Refused n) gs s h = omega arith
+accepted-modest : (c : Circuit) (o : Opened) (t : Typed) → c .m ≤ 16 → Modest (accepted c o t .answer)
+unfolding accepted newCircuit withGates withoutLast withNewStart opening withoutSum termsOf
+accepted-modest c o (circuit m) h = tt
+accepted-modest c o (gate g) h = tt
+accepted-modest c o (layer gs) h = tt
+accepted-modest c o (undo k) h = tt
+accepted-modest c o (start r b g) h = tt
+accepted-modest c o (sum (amp C r b g)) h = left-modest (c .m) (2 ^ c .m) h (le-refl _)
+accepted-modest c o (sum (part C x y)) h = left-modest (c .m) (2 ^ c .m) h (le-refl _)
+accepted-modest c o (step k) h = step-modest c o k h
+accepted-modest c o drop h = tt
+accepted-modest c o terms h = omega (arith, listing-most (polynomial (c .gates)))
 
-turn-modest : (n : ℕ) (x : Loaded) (form : Form) (gs : List Gate) → Sound x → formRefusal form ≤ 5 → n ≤ 13 → Modest (turnBy n x form gs .answer)
-unfolding turnBy
-turn-modest zero x form gs s h l = accepted-modest x form gs s h
-turn-modest (suc n) x form gs s h l = omega arith
+turn-modest : (x : Loaded) (room : ℕ) (line : List ℕ) → Sound x → Modest (turnOf x room (readingOf line) .answer)
+unfolding turnOf
+turn-modest x room line s = go (readingOf line) refl
+  where
+    by : (t : Typed) (n : ℕ) → n ≤ 13 → Modest (turnBy n x t .answer)
+    unfolding turnBy
+    by t zero l = accepted-modest (circuitOf x) (openedOf x) t (positions-most x s)
+    by t (suc n) l = omega arith
+
+    go : (r : Reading) → readingOf line ≡ r → Modest (turnOf x room r .answer)
+    unfolding turnOf
+    go (typed t) is = by t (refusalOf x room (typed t)) (rw is at (refusal-most x room line))
+    go (refused n) is = let k = refused-among line n is in omega arith
 
 -- The answer to a line has room in the 64 bytes that the engine asks for.
-pub turn-fits :
-    (x : Loaded) (room : ℕ) (line : List ℕ) → Sound x → length (bytesOf (turnOf x room (formOf line) (lineGates (formOf line) line) .answer)) ≤ 64
-unfolding turnOf refusalOf
-turn-fits x room line s =
-    answer-fits _ (turn-modest _ x (formOf line) _ s (form-number line) (refusal-most _ _ _ room _ (formOf line) _ (form-number line)))
+pub turn-fits : (x : Loaded) (room : ℕ) (line : List ℕ) → Sound x → length (bytesOf (turnOf x room (readingOf line) .answer)) ≤ 64
+turn-fits x room line s = answer-fits _ (turn-modest x room line s)

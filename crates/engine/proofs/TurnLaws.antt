@@ -1,9 +1,9 @@
 -- What the stages of a turn make of a state: a new circuit, a new start, a line that is no form of a stage's own.
 use mathlib.Core.Path.{_≡_}
-use mathlib.Core.Bool.{Bool, not, cond}
-use mathlib.Core.List.{List, [], _∷_}
+use mathlib.Core.Bool.{Bool, not}
+use mathlib.Core.List.{List}
 use Prim.Native.Nat.{ℕ}
-use lib.Dec.{eqb, T}
+use lib.Dec.{T}
 use denote.Enum.Declared.{tagOf}
 use mir.Val.{hasKey}
 use types.Run.{OneOf, miss}
@@ -17,17 +17,9 @@ use Rattle.engine.specs.State.{numbersOf, encodeSum, encodeLoaded, encod
 
 -- ---- forms
 
-abbrev pub without : ℕ → List ℕ → List ℕ
-without n [] = []
-without n (k ∷ ks) = cond (eqb k n) ks (k ∷ without n ks)
-
--- The forms besides one of them, by their numbers.
-abbrev pub besides : ℕ → List ℕ
-besides n = without n (0 ∷ 1 ∷ 2 ∷ 3 ∷ 4 ∷ 5 ∷ 6 ∷ 7 ∷ 8 ∷ 9 ∷ 10 ∷ 11 ∷ 12 ∷ [])
-
--- A form is none of the forms besides it.
-pub own-form : {A : Type 0} (n : ℕ) (form own : Form) → form ≡ own → T (not (hasKey (besides n) (tagOf the-type own))) → OneOf (besides n) (tagOf the-type form) → A
-own-form n form own e h o = absurd (miss (besides n) (tagOf the-type own) h (rw e at o))
+-- A stage that finds another form than its own: `keys` numbers the others.
+pub own-form : {A : Type 0} (keys : List ℕ) (form own : Form) → form ≡ own → T (not (hasKey keys (tagOf the-type own))) → OneOf keys (tagOf the-type form) → A
+own-form keys form own e h o = absurd (miss keys (tagOf the-type own) h (rw e at o))
 
 -- ---- states
 

@@ -2,24 +2,24 @@
 use mathlib.Core.Path.{_≡_, refl, ap, sym, _∙_}
 use mathlib.Core.Bool.{Bool, true, false, not, cond}
 use mathlib.Core.List.{List}
-use Prim.Native.Nat.{ℕ, zero, suc, _+_, _^_}
+use Prim.Native.Nat.{ℕ, zero, suc, _+_, _^_, _≤_, min}
+use native.Mathlib.Nat.{min-eq-left}
 use native.Mathlib.Omega.{arith}
 use lib.Dec.{eqb, ltb}
 use lib.ListN.{length}
 use borrow.Author.Tests.{ne-eqb}
-use Rattle.circuit.specs.declared.Gate.{Gate}
-use Rattle.lines.specs.declared.Form.{Form}
-use Rattle.lines.specs.declared.Form.the-variants as Form
+use Rattle.lines.specs.Typed.{amp, part, Typed, circuit, gate, layer, undo, start, sum, step, drop, terms}
+use Rattle.lines.specs.Spelling.{Reading, form as typed, refused, readingOf, gatesIn}
+use Rattle.lines.proofs.Readings.{refused-among}
 use Rattle.answers.specs.declared.Answer.{Answer}
 use Rattle.answers.specs.declared.Answer.the-variants as Answer
+use Rattle.refusals.specs.Refusals.{refusalBy}
 use Rattle.engine.specs.declared.State.{State}
 use Rattle.engine.specs.Engine.{Circuit, Purpose, amplitude, readout, OpenSum, Opened, closed, running, Loaded, absent, present, Engine, Sound}
-use Rattle.refusals.specs.Refusals.{formRefusal, refusalBy}
-use Rattle.engine.specs.Response.{Turn, newCircuit, withGates, withoutLast, withNewStart, opening, total, stepped, stepOf, termsOf, accepted, hasCircuit, isRunning, sumOpen, positionsOf, gatesOf, refusalOf, acceptedBy, turnBy, turnOf}
+use Rattle.engine.specs.Response.{Turn, newCircuit, withGates, withoutLast, withNewStart, opening, total, stepped, stepOf, withoutSum, termsOf, accepted, hasCircuit, circuitOf, openedOf, isRunning, gatesOf, refusalOf, turnBy, turnOf}
 use Rattle.engine.specs.State.{noSum, sumState, encodeSum, encodeLoaded, encode, Holds}
 use Rattle.engine.specs.Calls.{refusalNumber}
 use Rattle.engine.specs.Turns.{isOpen, Free, Taken, Turned}
-use Rattle.engine.proofs.TurnTaken.{passing}
 
 -- ---- what the places look at
 
@@ -34,21 +34,26 @@ unfolding sumState isOpen
 kind-open m o amplitude = refl
 kind-open m o readout = refl
 
-open-by-kind : (x : Loaded) (l : Bool) → isOpen (encodeLoaded x l .sum .kind) ≡ sumOpen x
-unfolding encodeLoaded encodeSum noSum isOpen sumOpen isRunning
+open-by-kind : (x : Loaded) (l : Bool) → isOpen (encodeLoaded x l .sum .kind) ≡ isRunning (openedOf x)
+unfolding encodeLoaded encodeSum noSum isOpen openedOf isRunning
 open-by-kind absent l = refl
 open-by-kind (present c closed) l = refl
 open-by-kind (present c (running o)) l = kind-open (c .m) o (o .purpose)
 
-positions-held : (x : Loaded) (l : Bool) → encodeLoaded x l .m ≡ positionsOf x
-unfolding encodeLoaded positionsOf
+positions-held : (x : Loaded) (l : Bool) → encodeLoaded x l .m ≡ circuitOf x .m
+unfolding encodeLoaded circuitOf
 positions-held absent l = refl
 positions-held (present c o) l = refl
 
 gates-held : (x : Loaded) (l : Bool) → encodeLoaded x l .held ≡ length (gatesOf x)
-unfolding encodeLoaded gatesOf
+unfolding encodeLoaded circuitOf
 gates-held absent l = refl
 gates-held (present c o) l = refl
+
+pub positions-most : (x : Loaded) → Sound x → circuitOf x .m ≤ 16
+unfolding circuitOf
+positions-most absent s = omega arith
+positions-most (present c o) s = s .most
 
 -- ---- an accepted line answers no refusal
 
@@ -66,61 +71,70 @@ unfolding refusalNumber stepOf stepped
 step-number c closed k = refl
 step-number c (running o) k = either-number (ltb (o .worked + k) (2 ^ c .m)) _ _ refl (total-number (c .m) o (o .purpose))
 
-accepted-number : (x : Loaded) (form : Form) (gs : List Gate) → formRefusal form ≡ 0 → refusalNumber (acceptedBy x form gs .answer) ≡ 0
-unfolding refusalNumber acceptedBy accepted newCircuit withGates withoutLast withNewStart opening termsOf formRefusal
-accepted-number absent (Form.Circuit m) gs r = refl
-accepted-number absent (Form.Ccz i j k) gs r = refl
-accepted-number absent (Form.Cz p q) gs r = refl
-accepted-number absent (Form.Cnot C c t) gs r = refl
-accepted-number absent (Form.Layer n) gs r = refl
-accepted-number absent (Form.Undo k) gs r = refl
-accepted-number absent (Form.Start a b g) gs r = refl
-accepted-number absent (Form.Amp C a b g) gs r = refl
-accepted-number absent (Form.Part C x y) gs r = refl
-accepted-number absent (Form.Step k) gs r = refl
-accepted-number absent Form.Drop gs r = refl
-accepted-number absent Form.Terms gs r = refl
-accepted-number absent (Form.Refused n) gs r = r
-accepted-number (present c o) (Form.Circuit m) gs r = refl
-accepted-number (present c o) (Form.Ccz i j k) gs r = refl
-accepted-number (present c o) (Form.Cz p q) gs r = refl
-accepted-number (present c o) (Form.Cnot C i t) gs r = refl
-accepted-number (present c o) (Form.Layer n) gs r = refl
-accepted-number (present c o) (Form.Undo k) gs r = refl
-accepted-number (present c o) (Form.Start a b g) gs r = refl
-accepted-number (present c o) (Form.Amp C a b g) gs r = refl
-accepted-number (present c o) (Form.Part C x y) gs r = refl
-accepted-number (present c o) (Form.Step k) gs r = step-number c o k
-accepted-number (present c o) Form.Drop gs r = refl
-accepted-number (present c o) Form.Terms gs r = refl
-accepted-number (present c o) (Form.Refused n) gs r = r
+pub accepted-number : (c : Circuit) (o : Opened) (t : Typed) → refusalNumber (accepted c o t .answer) ≡ 0
+unfolding refusalNumber accepted newCircuit withGates withoutLast withNewStart opening withoutSum termsOf
+accepted-number c o (circuit m) = refl
+accepted-number c o (gate g) = refl
+accepted-number c o (layer gs) = refl
+accepted-number c o (undo k) = refl
+accepted-number c o (start r b g) = refl
+accepted-number c o (sum (amp C r b g)) = refl
+accepted-number c o (sum (part C x y)) = refl
+accepted-number c o (step k) = step-number c o k
+accepted-number c o drop = refl
+accepted-number c o terms = refl
 
 -- ---- the turn
 
-module _ (e : Engine) (s : State) (h : List ℕ) (held : Holds e s h) (form : Form) (gs : List Gate) where
+module _ (e : Engine) (s : State) (h : List ℕ) (held : Holds e s h) (r : Reading) where
   places-tried :
       (summing : Bool) → summing ≡ isOpen (s .sum .kind) →
-      refusalBy (not (eqb (s .m) 0)) summing (s .m) (length h) (s .held) form gs ≡ refusalOf (e .loaded) (length h) form gs
+      refusalBy (not (eqb (s .m) 0)) summing (min (s .m) 16) (length h) (s .held) r ≡ refusalOf (e .loaded) (length h) r
   unfolding refusalOf encode
   places-tried summing o =
-      rw (o, held .state, loaded-by-m (e .loaded) (e .listed) (held .sound), open-by-kind (e .loaded) (e .listed), positions-held (e .loaded) (e .listed), gates-held (e .loaded) (e .listed))
+      let most : min (circuitOf (e .loaded) .m) 16 ≡ circuitOf (e .loaded) .m = min-eq-left (positions-most (e .loaded) (held .sound)) in
+      rw (o, held .state, loaded-by-m (e .loaded) (e .listed) (held .sound), open-by-kind (e .loaded) (e .listed), positions-held (e .loaded) (e .listed), gates-held (e .loaded) (e .listed), most)
 
-  turned-back : (n : ℕ) → (n ≡ 0 → ⊥) → refusalOf (e .loaded) (length h) form gs ≡ n → Turned e h form gs s (Answer.Refused n) h
-  unfolding turnOf turnBy refusalNumber encode
-  turned-back zero some r = absurd (some refl)
-  turned-back (suc n) some r = record { state = rw r (held .state); answer = rw r; history = rw (ne-eqb (suc n) 0 some) }
+module _ (e : Engine) (s : State) (h : List ℕ) (held : Holds e s h) (r : Reading) (n : ℕ) (summing : Bool) (is : summing ≡ isOpen (s .sum .kind))
+    (found : n ≡ refusalBy (not (eqb (s .m) 0)) summing (min (s .m) 16) (length h) (s .held) r) where
+  number-found : n ≡ refusalOf (e .loaded) (length h) r
+  number-found = found ∙ places-tried e s h held r summing is
 
-  module _ (n : ℕ) (summing : Bool) (is : summing ≡ isOpen (s .sum .kind)) (found : n ≡ refusalBy (not (eqb (s .m) 0)) summing (s .m) (length h) (s .held) form gs) where
-    -- A number that was found turns the line back, and nothing is changed.
-    pub refused-turn : (n ≡ 0 → ⊥) → Turned e h form gs s (Answer.Refused n) h
-    refused-turn some = turned-back n some (sym (found ∙ places-tried summing is))
+  -- A number that was found turns the line back, and nothing is changed.
+  pub refused-turn : (n ≡ 0 → ⊥) → Turned e h r s (Answer.Refused n) h
+  unfolding turnOf refusalNumber encode
+  refused-turn some = record { state = held .state ∙ ap (λ (x : Loaded). encodeLoaded x (e .listed)) (sym (back .0)); answer = sym (back .1); history = rw (ne-eqb n 0 some) }
+    where
+      by : (t : Typed) (k : ℕ) → n ≡ k → (turnBy k (e .loaded) t .after ≡ e .loaded) × (turnBy k (e .loaded) t .answer ≡ Answer.Refused n)
+      unfolding turnBy
+      by t zero z = absurd (some z)
+      by t (suc k) z = (refl, ap Answer.Refused (sym z))
 
-    -- No number: the line is taken.
-    pub taken-turn : n ≡ 0 → (s' : State) (a : Answer) (h' : List ℕ) → (Free e s h form gs → Taken e h form gs s' a h') → Turned e h form gs s' a h'
-    unfolding turnOf turnBy
-    taken-turn none s' a h' t =
-        let free : refusalOf (e .loaded) (length h) form gs ≡ 0 = sym (found ∙ places-tried summing is) ∙ none in
-        let f : Free e s h form gs = record { holds = held; free = free } in
-        let d = t f in
-        let zero : refusalNumber a ≡ 0 = ap refusalNumber (d .answer) ∙ accepted-number (e .loaded) form gs (passing e s h form gs f .read) in
-        record { state = rw free (d .state); answer = rw free (d .answer); history = rw zero (d .history) }
+      go : (r : Reading) → n ≡ refusalOf (e .loaded) (length h) r → (turnOf (e .loaded) (length h) r .after ≡ e .loaded) × (turnOf (e .loaded) (length h) r .answer ≡ Answer.Refused n)
+      unfolding turnOf refusalOf refusalBy
+      go (typed t) z = by t (refusalOf (e .loaded) (length h) (typed t)) z
+      go (refused k) z = (refl, ap Answer.Refused (sym z))
+
+      back : (turnOf (e .loaded) (length h) r .after ≡ e .loaded) × (turnOf (e .loaded) (length h) r .answer ≡ Answer.Refused n)
+      back = go r number-found
+
+  -- No number: the line spells a form, and the form is taken.
+  pub taken-turn :
+      (l : List ℕ) → r ≡ readingOf l → n ≡ 0 → (s' : State) (a : Answer) (h' : List ℕ) →
+      ((t : Typed) → readingOf l ≡ typed t → Free e s h t → Taken e h t s' a h') → Turned e h (readingOf l) s' a h'
+  unfolding turnOf turnBy gatesIn
+  taken-turn l same none s' a h' taken = go (readingOf l) refl
+    where
+      free : refusalOf (e .loaded) (length h) (readingOf l) ≡ 0
+      free = ap (refusalOf (e .loaded) (length h)) (sym same) ∙ sym number-found ∙ none
+
+      go : (x : Reading) → readingOf l ≡ x → Turned e h x s' a h'
+      unfolding turnOf turnBy gatesIn refusalOf refusalBy
+      go (refused k) is =
+          let z : k ≡ 0 = rw is at free in
+          absurd (omega (arith, refused-among l k is))
+      go (typed t) is =
+          let passed : refusalOf (e .loaded) (length h) (typed t) ≡ 0 = rw is at free in
+          let d = taken t is (record { holds = held; free = passed }) in
+          let zero : refusalNumber a ≡ 0 = ap refusalNumber (d .answer) ∙ accepted-number (circuitOf (e .loaded)) (openedOf (e .loaded)) t in
+          record { state = rw passed (d .state); answer = rw passed (d .answer); history = rw zero (d .history) }

@@ -1,128 +1,127 @@
 -- What a line can do to an engine: one case for each outcome, with what is known there.
-use mathlib.Core.Path.{_≡_, refl}
-use mathlib.Core.Bool.{Bool, true, false, cond, _&&_, true≢false}
-use mathlib.Core.List.{List, [], _++_}
+use mathlib.Core.Path.{_≡_, refl, sym}
+use mathlib.Core.Bool.{Bool, true, false, not, cond, _&&_, true≢false}
+use mathlib.Core.List.{List, [], _∷_, _++_}
 use Prim.Native.Nat.{ℕ, zero, suc, _+_, _-_, _^_, _≤_, _<_}
+use native.Mathlib.Omega.{arith}
 use lib.Dec.{eqb, leb, ltb}
 use lib.ListN.{length, take}
 use borrow.Author.Tests.{ltb-true, ltb-false, leb-true, eqb-true, not-false}
-use Rattle.gf2.proofs.Impossible.{never}
+use Rattle.gf2.specs.Strings.{BitString}
 use Rattle.gf2.proofs.Bits.{and-both}
 use Rattle.circuit.specs.declared.Colour.{Colour}
-use Rattle.circuit.specs.declared.Spot.{Spot}
-use Rattle.text.specs.declared.Bits.{Bits}
-use Rattle.lines.specs.declared.Form.{Form}
-use Rattle.lines.specs.declared.Form.the-variants as Form
+use Rattle.circuit.specs.declared.Gate.{Gate}
+use Rattle.circuit.specs.Sum.{areGates}
+use Rattle.text.specs.Spelling.{numberOfBits}
+use Rattle.lines.specs.declared.Class.the-variants as Class
+use Rattle.lines.specs.Typed.{amp, part, Typed, circuit, gate, layer, undo, start, sum, step, drop, terms, stringsOf, row}
+use Rattle.lines.specs.Spelling.{Reading, form as typed, refused, readingOf}
+use Rattle.lines.proofs.Readings.{form-read, refused-among}
 use Rattle.answers.specs.declared.Answer.{Answer}
 use Rattle.answers.specs.declared.Answer.the-variants as Answer
-use Rattle.engine.specs.Engine.{Circuit, amplitude, readout, OpenSum, closed, running, Loaded, absent, present}
-use Rattle.refusals.specs.Refusals.{isCircuit, works, within, allInRange, anyOnItself, lineGates, places, outOfRange, notLong, wrongLength, formRefusal}
-use Rattle.engine.specs.Response.{Turn, noStrings, newCircuit, withGates, withoutLast, withNewStart, outputWith, opening, besideUnread, total, stepped, stepOf, termsOf, accepted, hasCircuit, isRunning, sumOpen, positionsOf, gatesOf, refusalOf, acceptedBy, turnBy, turnOf}
+use Rattle.refusals.specs.Refusals.{classNumber, isClass, works, within, places, anyNotLong, refusalBy}
+use Rattle.engine.specs.Engine.{Circuit, amplitude, readout, OpenSum, Opened, closed, running, Loaded, absent, present}
+use Rattle.engine.specs.Response.{Turn, noStrings, newCircuit, withGates, withoutLast, withNewStart, asNumbers, outputWith, opening, besideUnread, total, stepped, stepOf, withoutSum, termsOf, accepted, hasCircuit, circuitOf, openedOf, isRunning, gatesOf, refusalOf, turnBy, turnOf}
 use Rattle.engine.proofs.Passing.{or-none, Passes, passes}
+use Rattle.engine.proofs.HeldGates.{gates-by-tests}
 
--- The forms of gates.
-pub data HasGates : Form → Type 0 where
-  ccz : {i j k : ℕ} → HasGates (Form.Ccz i j k)
-  cz : {p q : Spot} → HasGates (Form.Cz p q)
-  cnot : {C : Colour} {c t : ℕ} → HasGates (Form.Cnot C c t)
-  layer : {n : ℕ} → HasGates (Form.Layer n)
+-- The forms of gates, and their gates.
+pub data Building : Typed → List Gate → Type 0 where
+  one : {g : Gate} → Building (gate g) (g ∷ [])
+  many : {gs : List Gate} → Building (layer gs) gs
 
--- An engine, a line's form, the engine after it and the answer. `room` is the history's length, l the line.
-pub data View (room : ℕ) (l : List ℕ) : Loaded → Form → Loaded → Answer → Type 0 where
-  refuses : {e : Loaded} {f : Form} {n : ℕ} → View room l e f e (Answer.Refused (suc n))
-  -- No line has this form: a refusal's number is not 0.
-  passesBy : {e : Loaded} → View room l e (Form.Refused 0) e (Answer.Refused 0)
+-- An engine, what a line is read as, the engine after it and the answer. `room` is the history's length.
+pub data View (room : ℕ) : Loaded → Reading → Loaded → Answer → Type 0 where
+  refuses : {e : Loaded} {r : Reading} {n : ℕ} → View room e r e (Answer.Refused (suc n))
   creates :
-      {e : Loaded} {m : ℕ} → sumOpen e ≡ false → 1 ≤ m → m ≤ 16 →
-      View room l e (Form.Circuit m) (present (record { m = m; gates = []; start = noStrings }) closed) Answer.Ok
+      {e : Loaded} {m : ℕ} → isRunning (openedOf e) ≡ false → 1 ≤ m → m ≤ 16 →
+      View room e (typed (circuit m)) (present (record { m = m; gates = []; start = noStrings }) closed) Answer.Ok
   adds :
-      {c : Circuit} {f : Form} → HasGates f → allInRange (c .m) (lineGates f l) ≡ true → anyOnItself (lineGates f l) ≡ false →
-      length (c .gates) + length (lineGates f l) ≤ places room →
-      View room l (present c closed) f (present (record { m = c .m; gates = c .gates ++ lineGates f l; start = c .start }) closed) Answer.Ok
+      {c : Circuit} {t : Typed} {gs : List Gate} → Building t gs → areGates (c .m) gs ≡ true → length (c .gates) + length gs ≤ places room →
+      View room (present c closed) (typed t) (present (record { m = c .m; gates = c .gates ++ gs; start = c .start }) closed) Answer.Ok
   takesBack :
       {c : Circuit} {k : ℕ} →
-      View room l (present c closed) (Form.Undo k)
+      View room (present c closed) (typed (undo k))
       (present (record { m = c .m; gates = take (length (c .gates) - k) (c .gates); start = c .start }) closed)
       Answer.Ok
   starts :
-      {c : Circuit} {r b g : Bits} → r .len ≡ c .m → b .len ≡ c .m → g .len ≡ c .m →
-      View room l (present c closed) (Form.Start r b g)
-      (present (record { m = c .m; gates = c .gates; start = record { red = r .value; blue = b .value; green = g .value } }) closed)
-      Answer.Ok
+      {c : Circuit} {r b g : BitString} → length r ≡ c .m → length b ≡ c .m → length g ≡ c .m →
+      View room (present c closed) (typed (start r b g)) (present (record { m = c .m; gates = c .gates; start = asNumbers r b g }) closed) Answer.Ok
   opensAmplitude :
-      {c : Circuit} {C : Colour} {r b g : Bits} → r .len ≡ c .m → b .len ≡ c .m → g .len ≡ c .m →
-      View room l (present c closed) (Form.Amp C r b g)
+      {c : Circuit} {C : Colour} {r b g : BitString} → length r ≡ c .m → length b ≡ c .m → length g ≡ c .m →
+      View room (present c closed) (typed (sum (amp C r b g)))
       (present c
       (running
-      (record {
-        purpose = amplitude;
-        colour = C;
-        output = outputWith (c .start) (record { red = r .value; blue = b .value; green = g .value });
-        gates = c .gates;
-        worked = 0;
-      })))
+      (record { purpose = amplitude; colour = C; output = outputWith (c .start) (asNumbers r b g); gates = c .gates; worked = 0 })))
       (Answer.Left (2 ^ c .m))
   opensReadout :
-      {c : Circuit} {C : Colour} {x y : Bits} → x .len ≡ c .m → y .len ≡ c .m →
-      View room l (present c closed) (Form.Part C x y)
+      {c : Circuit} {C : Colour} {x y : BitString} → length x ≡ c .m → length y ≡ c .m →
+      View room (present c closed) (typed (sum (part C x y)))
       (present c
       (running
       (record {
         purpose = readout;
         colour = C;
-        output = outputWith (c .start) (besideUnread C (x .value) (y .value));
+        output = outputWith (c .start) (besideUnread C (numberOfBits x) (numberOfBits y));
         gates = c .gates;
         worked = 0;
       })))
       (Answer.Left (2 ^ c .m))
   worksOn :
       {c : Circuit} {o : OpenSum} {k : ℕ} → o .worked + k < 2 ^ c .m →
-      View room l (present c (running o)) (Form.Step k)
+      View room (present c (running o)) (typed (step k))
       (present c
       (running (record { purpose = o .purpose; colour = o .colour; output = o .output; gates = o .gates; worked = o .worked + k })))
       (Answer.Left (2 ^ c .m - (o .worked + k)))
   finishes :
       {c : Circuit} {o : OpenSum} {k : ℕ} → 2 ^ c .m ≤ o .worked + k →
-      View room l (present c (running o)) (Form.Step k) (present c closed) (total (c .m) o (o .purpose))
-  drops : {c : Circuit} {o : OpenSum} → View room l (present c (running o)) Form.Drop (present c closed) Answer.Ok
-  lists : {c : Circuit} {n : ℕ} → View room l (present c closed) Form.Terms (present c closed) (Answer.Terms n)
+      View room (present c (running o)) (typed (step k)) (present c closed) (total (c .m) o (o .purpose))
+  drops : {c : Circuit} {o : OpenSum} → View room (present c (running o)) (typed drop) (present c closed) Answer.Ok
+  lists : {c : Circuit} {n : ℕ} → View room (present c closed) (typed terms) (present c closed) (Answer.Terms n)
 
-abbrev pub ViewOf : ℕ → List ℕ → Loaded → Form → Turn → Type 0
-ViewOf room l e f t = View room l e f (t .after) (t .answer)
+abbrev pub ViewOf : ℕ → Loaded → Reading → Turn → Type 0
+ViewOf room e r t = View room e r (t .after) (t .answer)
 
-long : (m : ℕ) (s : Bits) → notLong m s ≡ false → s .len ≡ m
-unfolding notLong
-long m s h = eqb-true (s .len) m (not-false (eqb (s .len) m) h)
+-- The strings of a line that is not refused by 11 are m long.
+long : (m : ℕ) (s : BitString) → not (eqb (length s) m) ≡ false → length s ≡ m
+long m s h = eqb-true (length s) m (not-false (eqb (length s) m) h)
 
-module _ (room : ℕ) (l : List ℕ) where
-  abbrev Passing : Loaded → Form → Type 0
-  Passing e f = Passes (hasCircuit e) (sumOpen e) (positionsOf e) room (length (gatesOf e)) f (lineGates f l)
+pub two-long : (m : ℕ) (x y : BitString) → anyNotLong m (x ∷ y ∷ []) ≡ false → (length x ≡ m) × (length y ≡ m)
+unfolding anyNotLong
+two-long m x y h =
+    let p = or-none (not (eqb (length x) m)) _ h in
+    let q = or-none (not (eqb (length y) m)) false (p .1) in
+    (long m x (p .0), long m y (q .0))
+
+pub three-long : (m : ℕ) (x y z : BitString) → anyNotLong m (x ∷ y ∷ z ∷ []) ≡ false → (length x ≡ m) × (length y ≡ m) × (length z ≡ m)
+unfolding anyNotLong
+three-long m x y z h =
+    let p = or-none (not (eqb (length x) m)) _ h in
+    let q = two-long m y z (p .1) in
+    (long m x (p .0), q .0, q .1)
+
+module _ (room : ℕ) where
+  abbrev Passing : Loaded → Typed → Type 0
+  Passing e t = Passes (hasCircuit e) (isRunning (openedOf e)) (circuitOf e .m) room (length (gatesOf e)) (row t)
 
   -- a new circuit
-  created : (e : Loaded) (m : ℕ) → Passing e (Form.Circuit m) → ViewOf room l e (Form.Circuit m) (newCircuit m)
-  unfolding newCircuit works outOfRange within
-  created e m p = creates (shut (sumOpen e) (p .waiting)) (leb-true 1 m (and-both (leb 1 m) (leb m 16) range .0)) (leb-true m 16 (and-both (leb 1 m) (leb m 16) range .1))
+  created : (e : Loaded) (m : ℕ) → Passing e (circuit m) → ViewOf room e (typed (circuit m)) (newCircuit m)
+  unfolding newCircuit row works isClass classNumber within
+  created e m p =
+      let range = and-both (leb 1 m) (leb m 16) (p .number) in
+      creates (shut (isRunning (openedOf e)) (p .waiting)) (leb-true 1 m (range .0)) (leb-true m 16 (range .1))
     where
       shut : (b : Bool) → b && true ≡ false → b ≡ false
       shut true h = h
       shut false h = h
 
-      range : leb 1 m && leb m 16 ≡ true
-      range = not-false (leb 1 m && leb m 16) (p .ranges)
-
-  added :
-      (c : Circuit) (f : Form) → HasGates f → allInRange (c .m) (lineGates f l) ≡ true → Passing (present c closed) f →
-      ViewOf room l (present c closed) f (withGates c closed (lineGates f l))
-  unfolding withGates gatesOf
-  added c f h r p = adds h r (p .targets) (p .fits)
-
-  worked : (c : Circuit) (o : OpenSum) (k : ℕ) → ViewOf room l (present c (running o)) (Form.Step k) (stepped c o k)
+  worked : (c : Circuit) (o : OpenSum) (k : ℕ) → ViewOf room (present c (running o)) (typed (step k)) (stepped c o k)
   unfolding stepped
   worked c o k = go (ltb (o .worked + k) (2 ^ c .m)) refl
     where
       go :
           (b : Bool) → ltb (o .worked + k) (2 ^ c .m) ≡ b →
-          ViewOf room l (present c (running o)) (Form.Step k)
+          ViewOf room (present c (running o)) (typed (step k))
           (cond b
           (record {
             after =
@@ -135,78 +134,62 @@ module _ (room : ℕ) (l : List ℕ) where
       go true h = worksOn (ltb-true _ _ h)
       go false h = finishes (ltb-false _ _ h)
 
-  -- with no circuit
-  first : (f : Form) → Passing absent f → ViewOf room l absent f (acceptedBy absent f (lineGates f l))
-  unfolding acceptedBy hasCircuit isCircuit
-  first (Form.Circuit m) p = created absent m p
-  first (Form.Ccz i j k) p = absurd (true≢false (p .loading))
-  first (Form.Cz s t) p = absurd (true≢false (p .loading))
-  first (Form.Cnot C c t) p = absurd (true≢false (p .loading))
-  first (Form.Layer n) p = absurd (true≢false (p .loading))
-  first (Form.Undo k) p = absurd (true≢false (p .loading))
-  first (Form.Start r b g) p = absurd (true≢false (p .loading))
-  first (Form.Amp C r b g) p = absurd (true≢false (p .loading))
-  first (Form.Part C x y) p = absurd (true≢false (p .loading))
-  first (Form.Step k) p = absurd (true≢false (p .loading))
-  first Form.Drop p = absurd (true≢false (p .loading))
-  first Form.Terms p = absurd (true≢false (p .loading))
-  first (Form.Refused n) p = absurd (true≢false (p .loading))
+  module _ (l : List ℕ) where
+    -- with no circuit only `circuit` is taken
+    first : (t : Typed) → Passing absent t → ViewOf room absent (typed t) (accepted (circuitOf absent) closed t)
+    unfolding accepted hasCircuit row isClass classNumber
+    first (circuit m) p = created absent m p
+    first (gate g) p = absurd (true≢false (p .loading))
+    first (layer gs) p = absurd (true≢false (p .loading))
+    first (undo k) p = absurd (true≢false (p .loading))
+    first (start r b g) p = absurd (true≢false (p .loading))
+    first (sum q) p = absurd (true≢false (p .loading))
+    first (step k) p = absurd (true≢false (p .loading))
+    first drop p = absurd (true≢false (p .loading))
+    first terms p = absurd (true≢false (p .loading))
 
-  -- with no sum open
-  idle : (c : Circuit) (f : Form) → Passing (present c closed) f → ViewOf room l (present c closed) f (accepted c closed f (lineGates f l))
-  unfolding accepted sumOpen isRunning works positionsOf outOfRange wrongLength withoutLast withNewStart opening termsOf formRefusal
-  idle c (Form.Circuit m) p = created (present c closed) m p
-  idle c (Form.Ccz i j k) p = added c _ ccz (not-false _ (p .ranges)) p
-  idle c (Form.Cz s t) p = added c _ cz (not-false _ (p .ranges)) p
-  idle c (Form.Cnot C i t) p = added c _ cnot (not-false _ (p .ranges)) p
-  idle c (Form.Layer n) p = added c _ layer (and-both (within 1 48 n) _ (not-false _ (p .ranges)) .1) p
-  idle c (Form.Undo k) p = takesBack
-  idle c (Form.Start r b g) p =
-      let h = or-none (notLong (c .m) r) _ (p .lengths) in
-      let i = or-none (notLong (c .m) b) (notLong (c .m) g) (h .1) in
-      starts (long (c .m) r (h .0)) (long (c .m) b (i .0)) (long (c .m) g (i .1))
-  idle c (Form.Amp C r b g) p =
-      let h = or-none (notLong (c .m) r) _ (p .lengths) in
-      let i = or-none (notLong (c .m) b) (notLong (c .m) g) (h .1) in
-      opensAmplitude (long (c .m) r (h .0)) (long (c .m) b (i .0)) (long (c .m) g (i .1))
-  idle c (Form.Part C x y) p =
-      let h = or-none (notLong (c .m) x) (notLong (c .m) y) (p .lengths) in
-      opensReadout (long (c .m) x (h .0)) (long (c .m) y (h .1))
-  idle c (Form.Step k) p = absurd (true≢false (p .working))
-  idle c Form.Drop p = absurd (true≢false (p .working))
-  idle c Form.Terms p = lists
-  idle c (Form.Refused zero) p = passesBy
-  idle c (Form.Refused (suc n)) p = never (cc (p .read))
+    -- with no sum open
+    idle : (c : Circuit) (t : Typed) → readingOf l ≡ typed t → Passing (present c closed) t → ViewOf room (present c closed) (typed t) (accepted c closed t)
+    unfolding accepted circuitOf openedOf isRunning row stringsOf works isClass classNumber withGates withoutLast withNewStart opening termsOf
+    idle c (circuit m) is p = created (present c closed) m p
+    idle c (gate g) is p = adds one (gates-by-tests (c .m) (g ∷ []) (p .inside) (p .targets) (form-read l (gate g) is .colours)) (p .fits)
+    idle c (layer gs) is p = adds many (gates-by-tests (c .m) gs (p .inside) (p .targets) (form-read l (layer gs) is .colours)) (p .fits)
+    idle c (undo k) is p = takesBack
+    idle c (start r b g) is p = let h = three-long (c .m) r b g (p .lengths) in starts (h .0) (h .1) (h .2)
+    idle c (sum (amp C r b g)) is p = let h = three-long (c .m) r b g (p .lengths) in opensAmplitude (h .0) (h .1) (h .2)
+    idle c (sum (part C x y)) is p = let h = two-long (c .m) x y (p .lengths) in opensReadout (h .0) (h .1)
+    idle c (step k) is p = absurd (true≢false (p .working))
+    idle c drop is p = absurd (true≢false (p .working))
+    idle c terms is p = lists
 
-  -- with an open sum
-  summing :
-      (c : Circuit) (o : OpenSum) (f : Form) → Passing (present c (running o)) f →
-      ViewOf room l (present c (running o)) f (accepted c (running o) f (lineGates f l))
-  unfolding accepted sumOpen isRunning works stepOf
-  summing c o (Form.Circuit m) p = absurd (true≢false (p .waiting))
-  summing c o (Form.Ccz i j k) p = absurd (true≢false (p .waiting))
-  summing c o (Form.Cz s t) p = absurd (true≢false (p .waiting))
-  summing c o (Form.Cnot C i t) p = absurd (true≢false (p .waiting))
-  summing c o (Form.Layer n) p = absurd (true≢false (p .waiting))
-  summing c o (Form.Undo k) p = absurd (true≢false (p .waiting))
-  summing c o (Form.Start r b g) p = absurd (true≢false (p .waiting))
-  summing c o (Form.Amp C r b g) p = absurd (true≢false (p .waiting))
-  summing c o (Form.Part C x y) p = absurd (true≢false (p .waiting))
-  summing c o (Form.Step k) p = worked c o k
-  summing c o Form.Drop p = drops
-  summing c o Form.Terms p = absurd (true≢false (p .waiting))
-  summing c o (Form.Refused n) p = absurd (true≢false (p .waiting))
+    -- with an open sum
+    summing : (c : Circuit) (o : OpenSum) (t : Typed) → Passing (present c (running o)) t → ViewOf room (present c (running o)) (typed t) (accepted c (running o) t)
+    unfolding accepted openedOf isRunning row works isClass classNumber stepOf withoutSum
+    summing c o (circuit m) p = absurd (true≢false (p .waiting))
+    summing c o (gate g) p = absurd (true≢false (p .waiting))
+    summing c o (layer gs) p = absurd (true≢false (p .waiting))
+    summing c o (undo k) p = absurd (true≢false (p .waiting))
+    summing c o (start r b g) p = absurd (true≢false (p .waiting))
+    summing c o (sum q) p = absurd (true≢false (p .waiting))
+    summing c o (step k) p = worked c o k
+    summing c o drop p = drops
+    summing c o terms p = absurd (true≢false (p .waiting))
 
-  taken : (e : Loaded) (f : Form) → Passing e f → ViewOf room l e f (acceptedBy e f (lineGates f l))
-  unfolding acceptedBy
-  taken absent f p = first f p
-  taken (present c closed) f p = idle c f p
-  taken (present c (running o)) f p = summing c o f p
+    taken : (e : Loaded) (t : Typed) → readingOf l ≡ typed t → Passing e t → ViewOf room e (typed t) (accepted (circuitOf e) (openedOf e) t)
+    unfolding circuitOf openedOf
+    taken absent t is p = first t p
+    taken (present c closed) t is p = idle c t is p
+    taken (present c (running o)) t is p = summing c o t p
 
-  pub view : (e : Loaded) (f : Form) → ViewOf room l e f (turnOf e room f (lineGates f l))
-  unfolding turnOf turnBy refusalOf
-  view e f = go (refusalOf e room f (lineGates f l)) refl
-    where
-      go : (n : ℕ) → refusalOf e room f (lineGates f l) ≡ n → ViewOf room l e f (turnBy n e f (lineGates f l))
-      go zero h = taken e f (passes _ _ _ _ _ _ _ h)
-      go (suc n) h = refuses
+    pub view : (e : Loaded) → ViewOf room e (readingOf l) (turnOf e room (readingOf l))
+    unfolding turnOf turnBy refusalOf refusalBy
+    view e = go (readingOf l) refl
+      where
+        turned : (t : Typed) → readingOf l ≡ typed t → (n : ℕ) → refusalOf e room (typed t) ≡ n → ViewOf room e (typed t) (turnBy n e t)
+        turned t is zero h = taken e t is (passes _ _ _ _ _ _ h)
+        turned t is (suc n) h = refuses
+
+        go : (r : Reading) → readingOf l ≡ r → ViewOf room e r (turnOf e room r)
+        go (typed t) is = turned t is (refusalOf e room (typed t)) refl
+        go (refused zero) is = absurd (omega (arith, refused-among l zero is))
+        go (refused (suc n)) is = refuses

@@ -11,7 +11,7 @@ use Rattle.circuit.specs.declared.Entry.the-variants.{Listed as ListedAt, Nothi
 use Rattle.circuit.specs.Polynomial.{polynomial}
 use Rattle.circuit.specs.Listing.{listing, entryOf}
 use Rattle.circuit.specs.History.{codeOf}
-use Rattle.lines.specs.Forms.{formOf}
+use Rattle.lines.specs.Spelling.{gatesIn, readingOf}
 use Rattle.answers.specs.declared.Answer.{Answer}
 use Rattle.answers.specs.declared.Answer.the-variants as Answer
 use Rattle.answers.specs.Answers.{bytesOf, infront}
@@ -19,7 +19,6 @@ use Rattle.engine.specs.declared.State.{State}
 use Rattle.engine.specs.declared.Reply.{Reply}
 use Rattle.engine.specs.declared.Fetched.{Fetched}
 use Rattle.engine.specs.Engine.{Engine}
-use Rattle.refusals.specs.Refusals.{lineGates}
 use Rattle.engine.specs.Response.{gatesOf, turnOf}
 use Rattle.engine.specs.State.{encode, Holds}
 
@@ -57,13 +56,12 @@ pub record Response : Type 0 where
 -- A line that is read: its answer is written, and it ends the fetching of earlier lines.
 unfoldable pub answering : Engine → List ℕ → List ℕ → Response
 answering e h line =
-    let t = turnOf (e .loaded) (length h) (formOf line) (lineGates (formOf line) line) in
+    let t = turnOf (e .loaded) (length h) (readingOf line) in
     record {
       after = record { loaded = t .after; listed = hasLines (t .answer) };
       bytes = bytesOf (t .answer);
       refusal = refusalNumber (t .answer);
-      history =
-          cond (eqb (refusalNumber (t .answer)) 0) (stored (length (gatesOf (e .loaded))) (lineGates (formOf line) line) h) h;
+      history = cond (eqb (refusalNumber (t .answer)) 0) (stored (length (gatesOf (e .loaded))) (gatesIn (readingOf line)) h) h;
     }
 
 -- Refusal 1: "shorter than 64 bytes; it is then not written". The line ends the fetching of earlier lines all the same.

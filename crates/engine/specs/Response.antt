@@ -1,10 +1,11 @@
 -- What a line does to an engine, and what it is answered (document 01, "Bracket lines", "Where a line is turned back").
 use mathlib.Core.Bool.{Bool, true, false, cond}
-use mathlib.Core.List.{List, [], _++_}
+use mathlib.Core.List.{List, [], _∷_, _++_}
 use Prim.Native.Nat.{ℕ, zero, suc, _+_, _-_, _*_, _^_}
 use lib.Bits.{bitXor}
 use lib.Dec.{ltb}
 use lib.ListN.{length, take}
+use Rattle.gf2.specs.Strings.{BitString}
 use Rattle.circuit.specs.declared.Colour.{Colour}
 use Rattle.circuit.specs.declared.Gate.{Gate}
 use Rattle.circuit.specs.Colours.{join, first, second}
@@ -12,12 +13,13 @@ use Rattle.circuit.specs.Polynomial.{polynomial}
 use Rattle.circuit.specs.Listing.{listing}
 use Rattle.slices.specs.Packing.{strings}
 use Rattle.slices.specs.Totals.{amplitudeAfter, readoutCount}
-use Rattle.lines.specs.declared.Form.{Form}
-use Rattle.lines.specs.declared.Form.the-variants as Form
+use Rattle.text.specs.Spelling.{numberOfBits}
+use Rattle.lines.specs.Typed.{amp, part, Typed, circuit, gate, layer, undo, start, sum, step, drop, terms}
+use Rattle.lines.specs.Spelling.{Reading, form as typed, refused}
+use Rattle.refusals.specs.Refusals.{refusalBy}
 use Rattle.answers.specs.declared.Answer.{Answer}
 use Rattle.answers.specs.declared.Answer.the-variants as Answer
 use Rattle.engine.specs.Engine.{Strings, Circuit, Purpose, amplitude, readout, OpenSum, Opened, closed, running, Loaded, absent, present}
-use Rattle.refusals.specs.Refusals.{refusalBy}
 
 -- ---- what an accepted line does
 
@@ -49,6 +51,10 @@ withoutLast c o k =
 unfoldable pub withNewStart : Circuit → Opened → Strings → Turn
 withNewStart c o s = record { after = present (record { m = c .m; gates = c .gates; start = s }) o; answer = Answer.Ok }
 
+-- Three bit strings, each as the number that it is.
+unfoldable pub asNumbers : BitString → BitString → BitString → Strings
+asNumbers r b g = record { red = numberOfBits r; blue = numberOfBits b; green = numberOfBits g }
+
 -- "Amplitudes and counts are those of the all-zero start for the output string with the starting ones added modulo 2".
 unfoldable pub outputWith : Strings → Strings → Strings
 outputWith t s = record { red = bitXor (s .red) (t .red); blue = bitXor (s .blue) (t .blue); green = bitXor (s .green) (t .green) }
@@ -65,6 +71,10 @@ opening c p C s =
 -- and the start's ones of that colour change no readout count.
 unfoldable pub besideUnread : Colour → ℕ → ℕ → Strings
 besideUnread C x y = join C 0 x y
+
+-- "abandons the open sum"
+unfoldable pub withoutSum : Circuit → Turn
+withoutSum c = record { after = present c closed; answer = Answer.Ok }
 
 -- "`(amp S n)` or `(part T n)` after the step that ends it, .. n the exponent"
 unfoldable pub total : ℕ → OpenSum → Purpose → Answer
@@ -97,21 +107,18 @@ stepOf c (running o) k = stepped c o k
 unfoldable pub termsOf : Circuit → Opened → Turn
 termsOf c o = record { after = present c o; answer = Answer.Terms (length (listing 16 (polynomial (c .gates)))) }
 
--- What a form does that no place turns back. The forms that no circuit takes while it is absent are refused by 6.
-unfoldable pub accepted : Circuit → Opened → Form → List Gate → Turn
-accepted c o (Form.Circuit m) gs = newCircuit m
-accepted c o (Form.Ccz i j k) gs = withGates c o gs
-accepted c o (Form.Cz p q) gs = withGates c o gs
-accepted c o (Form.Cnot C i t) gs = withGates c o gs
-accepted c o (Form.Layer n) gs = withGates c o gs
-accepted c o (Form.Undo k) gs = withoutLast c o k
-accepted c o (Form.Start r b g) gs = withNewStart c o (record { red = r .value; blue = b .value; green = g .value })
-accepted c o (Form.Amp C r b g) gs = opening c amplitude C (record { red = r .value; blue = b .value; green = g .value })
-accepted c o (Form.Part C x y) gs = opening c readout C (besideUnread C (x .value) (y .value))
-accepted c o (Form.Step k) gs = stepOf c o k
-accepted c o Form.Drop gs = record { after = present c closed; answer = Answer.Ok }
-accepted c o Form.Terms gs = termsOf c o
-accepted c o (Form.Refused e) gs = record { after = present c o; answer = Answer.Refused e }
+-- What a form does that no place turns back.
+unfoldable pub accepted : Circuit → Opened → Typed → Turn
+accepted c o (circuit m) = newCircuit m
+accepted c o (gate g) = withGates c o (g ∷ [])
+accepted c o (layer gs) = withGates c o gs
+accepted c o (undo k) = withoutLast c o k
+accepted c o (start r b g) = withNewStart c o (asNumbers r b g)
+accepted c o (sum (amp C r b g)) = opening c amplitude C (asNumbers r b g)
+accepted c o (sum (part C x y)) = opening c readout C (besideUnread C (numberOfBits x) (numberOfBits y))
+accepted c o (step k) = stepOf c o k
+accepted c o drop = withoutSum c
+accepted c o terms = termsOf c o
 
 -- ---- which refusal a line gets, if any
 
@@ -119,46 +126,30 @@ unfoldable pub hasCircuit : Loaded → Bool
 hasCircuit absent = false
 hasCircuit (present c o) = true
 
+-- The circuit; an absent one has no positions, no gates and no start.
+unfoldable pub circuitOf : Loaded → Circuit
+circuitOf absent = record { m = 0; gates = []; start = noStrings }
+circuitOf (present c o) = c
+
+unfoldable pub openedOf : Loaded → Opened
+openedOf absent = closed
+openedOf (present c o) = o
+
 unfoldable pub isRunning : Opened → Bool
 isRunning closed = false
 isRunning (running o) = true
 
-unfoldable pub sumOpen : Loaded → Bool
-sumOpen absent = false
-sumOpen (present c o) = isRunning o
+abbrev pub gatesOf : Loaded → List Gate
+gatesOf e = circuitOf e .gates
 
--- The circuit's numbers; an absent one has none.
-unfoldable pub positionsOf : Loaded → ℕ
-positionsOf absent = 0
-positionsOf (present c o) = c .m
+unfoldable pub refusalOf : Loaded → ℕ → Reading → ℕ
+refusalOf e room r = refusalBy (hasCircuit e) (isRunning (openedOf e)) (circuitOf e .m) room (length (gatesOf e)) r
 
-unfoldable pub gatesOf : Loaded → List Gate
-gatesOf absent = []
-gatesOf (present c o) = c .gates
+-- A refusal leaves everything as it was. With no circuit only `circuit` is not refused, and it looks at none.
+unfoldable pub turnBy : ℕ → Loaded → Typed → Turn
+turnBy zero e t = accepted (circuitOf e) (openedOf e) t
+turnBy (suc n) e t = record { after = e; answer = Answer.Refused (suc n) }
 
-unfoldable pub refusalOf : Loaded → ℕ → Form → List Gate → ℕ
-refusalOf e room form gs = refusalBy (hasCircuit e) (sumOpen e) (positionsOf e) room (length (gatesOf e)) form gs
-
--- The turn of a line that is not refused; with no circuit only `circuit` gets here.
-unfoldable pub acceptedBy : Loaded → Form → List Gate → Turn
-acceptedBy absent (Form.Circuit m) gs = newCircuit m
-acceptedBy absent (Form.Ccz i j k) gs = record { after = absent; answer = Answer.Ok }
-acceptedBy absent (Form.Cz p q) gs = record { after = absent; answer = Answer.Ok }
-acceptedBy absent (Form.Cnot C c t) gs = record { after = absent; answer = Answer.Ok }
-acceptedBy absent (Form.Layer n) gs = record { after = absent; answer = Answer.Ok }
-acceptedBy absent (Form.Undo k) gs = record { after = absent; answer = Answer.Ok }
-acceptedBy absent (Form.Start r b g) gs = record { after = absent; answer = Answer.Ok }
-acceptedBy absent (Form.Amp C r b g) gs = record { after = absent; answer = Answer.Ok }
-acceptedBy absent (Form.Part C x y) gs = record { after = absent; answer = Answer.Ok }
-acceptedBy absent (Form.Step k) gs = record { after = absent; answer = Answer.Ok }
-acceptedBy absent Form.Drop gs = record { after = absent; answer = Answer.Ok }
-acceptedBy absent Form.Terms gs = record { after = absent; answer = Answer.Ok }
-acceptedBy absent (Form.Refused e) gs = record { after = absent; answer = Answer.Refused e }
-acceptedBy (present c o) form gs = accepted c o form gs
-
-unfoldable pub turnBy : ℕ → Loaded → Form → List Gate → Turn
-turnBy zero e form gs = acceptedBy e form gs
-turnBy (suc n) e form gs = record { after = e; answer = Answer.Refused (suc n) }
-
-unfoldable pub turnOf : Loaded → ℕ → Form → List Gate → Turn
-turnOf e room form gs = turnBy (refusalOf e room form gs) e form gs
+unfoldable pub turnOf : Loaded → ℕ → Reading → Turn
+turnOf e room (typed t) = turnBy (refusalOf e room (typed t)) e t
+turnOf e room (refused n) = record { after = e; answer = Answer.Refused n }

@@ -7,20 +7,20 @@ ghost use lib.Dec.{ltb};
 ghost use lib.ListN.{length, take, set};
 ghost use Rattle.circuit.specs.Sum.{isGate, areGates};
 ghost use Rattle.circuit.specs.History.{codeOf};
-ghost use Rattle.lines.specs.Forms.{formOf};
 ghost use Rattle.lines.specs.Gates.{layerGates};
+ghost use Rattle.lines.specs.Held.{heldReading};
+ghost use Rattle.lines.specs.Spelling.{readingOf};
+ghost use Rattle.lines.specs.declared.Form.the-variants as Form;
 ghost use Rattle.engine.specs.Engine.{Circuit, Opened, present};
-ghost use Rattle.refusals.specs.Refusals.{lineGates};
 ghost use Rattle.engine.specs.State.{encodeLoaded};
 ghost use Rattle.engine.specs.Calls.{stored};
 ghost use Rattle.engine.specs.Turns.{extended};
 use crate::State;
 use circuit::Gate;
-use lines::Form;
 use lines::GateAt;
 
 // One gate at the end of the circuit, and its code in the history.
-fn take_gate(state: State, history: &mut [u32], g: Gate) -> State
+pub(crate) fn take_gate(state: State, history: &mut [u32], g: Gate) -> State
     ensures state { λ r. ⌜ ((c : Circuit) (o : Opened) (b : Bool) → state ≡ encodeLoaded (present c o) b → isGate 16 g ≡ true →
         length (c .gates) < length (now (history .entry)) → r ≡ encodeLoaded (present (extended c (g ∷ [])) o) b) ⌝ }
     ensures history { λ _. ⌜ now (history .exit) ≡ cond (ltb (state .held) (length (now (history .entry)))) (set (now (history .entry)) (state .held) (codeOf g)) (now (history .entry)) ⌝ }
@@ -40,8 +40,8 @@ fn take_gate(state: State, history: &mut [u32], g: Gate) -> State
 }
 
 // The gates of a layer, from left to right.
-fn take_layer(state: State, history: &mut [u32], line: &[u8], n: usize) -> State
-    requires { ⌜ formOf (now line) ≡ Form.Layer n ⌝ }
+pub(crate) fn take_layer(state: State, history: &mut [u32], line: &[u8], n: usize) -> State
+    requires { ⌜ heldReading (readingOf (now line)) ≡ Form.Layer n ⌝ }
     ensures { λ r. ⌜ ((c : Circuit) (o : Opened) (b : Bool) → state ≡ encodeLoaded (present c o) b →
         areGates 16 (layerGates (now (line .entry))) ≡ true → length (c .gates) + n ≤ length (now (history .entry)) →
         (r ≡ encodeLoaded (present (extended c (layerGates (now (line .entry)))) o) b) ×
@@ -59,24 +59,6 @@ fn take_layer(state: State, history: &mut [u32], line: &[u8], n: usize) -> State
         i += 1;
     }
     next
-}
-
-// The gates of a line: one, or those of a layer.
-pub(crate) fn take_gates(state: State, history: &mut [u32], line: &[u8], form: Form) -> State
-    requires { ⌜ form ≡ formOf (now line) ⌝ }
-    ensures { λ r. ⌜ ((c : Circuit) (o : Opened) (b : Bool) → state ≡ encodeLoaded (present c o) b →
-        areGates 16 (lineGates form (now (line .entry))) ≡ true →
-        length (c .gates) + length (lineGates form (now (line .entry))) ≤ length (now (history .entry)) →
-        (r ≡ encodeLoaded (present (extended c (lineGates form (now (line .entry)))) o) b) ×
-        (now (history .exit) ≡ stored (length (c .gates)) (lineGates form (now (line .entry))) (now (history .entry)))) ⌝ }
-{
-    match form {
-        Form::Ccz(i, j, k) => take_gate(state, history, Gate::Ccz(i, j, k)),
-        Form::Cz(p, q) => take_gate(state, history, Gate::Cz(p, q)),
-        Form::Cnot(colour, c, t) => take_gate(state, history, Gate::Cnot(colour, c, t)),
-        Form::Layer(n) => take_layer(state, history, line, n),
-        _ => state,
-    }
 }
 
 // The last gate taken back: applied once more.

@@ -1,25 +1,28 @@
 // A line's turn: refused, or taken as its form asks.
-ghost use mathlib.Core.Bool.{Bool, true};
-ghost use mathlib.Core.List.{[], map};
+ghost use mathlib.Core.Bool.{Bool};
+ghost use mathlib.Core.List.{[], _∷_, map};
 ghost use mathlib.Core.Path.{_≡_};
-ghost use Prim.Native.Nat.{ℕ, _+_, _≤_};
+ghost use Prim.Native.Nat.{ℕ, _≤_};
 ghost use lib.ListN.{length, take};
 ghost use Rattle.circuit.specs.declared.Colour.{Colour};
-ghost use Rattle.circuit.specs.Sum.{areGates};
+ghost use Rattle.circuit.specs.declared.Gate.the-variants as Gate;
+ghost use Rattle.circuit.specs.declared.Spot.{Spot};
 ghost use Rattle.circuit.specs.History.{codeOf};
 ghost use Rattle.text.specs.declared.Bits.{Bits};
-ghost use Rattle.lines.specs.Forms.{formOf};
-ghost use Rattle.engine.specs.Engine.{Circuit, Opened, present, Engine, SoundCircuit};
-ghost use Rattle.refusals.specs.Refusals.{lineGates, formRefusal};
-ghost use Rattle.engine.specs.Response.{newCircuit, withGates, withNewStart};
+ghost use Rattle.lines.specs.Gates.{layerGates};
+ghost use Rattle.lines.specs.Held.{heldReading};
+ghost use Rattle.lines.specs.Spelling.{form as typed, readingOf};
+ghost use Rattle.lines.specs.Typed.{Typed};
+ghost use Rattle.engine.specs.Engine.{amplitude, readout, Circuit, Opened, present, Engine, SoundCircuit};
+ghost use Rattle.engine.specs.Response.{newCircuit, withoutLast, withNewStart, opening, besideUnread, stepOf, withoutSum, termsOf};
 ghost use Rattle.engine.specs.State.{encodeLoaded, Holds};
-ghost use Rattle.engine.specs.Calls.{stored};
-ghost use Rattle.engine.specs.Turns.{isOpen, Done, Does, Free, Taken, Turned};
+ghost use Rattle.engine.specs.Turns.{isOpen, Done, Does, Builds, Free, Taken, Turned};
 use crate::Kind;
 use crate::Numbers;
 use crate::State;
 use crate::Turn;
 use answers::Answer;
+use circuit::Gate;
 use lines::Form;
 
 // A new, empty circuit of `m` positions.
@@ -48,7 +51,7 @@ fn set_start(state: State, r: u32, b: u32, g: u32) -> State
 
 // A line that is no form of a stage is given back with the refusal that it has.
 fn turned_back(state: State, form: Form) -> Turn
-    ensures { λ t. ⌜ (t .state ≡ state) × (t .answer ≡ Answer.Refused (formRefusal form)) ⌝ }
+    ensures { λ t. ⌜ (t .state ≡ state) × ((e : ℕ) → form ≡ Form.Refused e → t .answer ≡ Answer.Refused e) ⌝ }
 {
     if let Form::Refused(e) = form {
         return Turn {
@@ -83,15 +86,57 @@ fn circuit_turn(state: State, form: Form) -> Turn
     }
 }
 
-fn gate_turn(state: State, history: &mut [u32], line: &[u8], form: Form) -> Turn
-    requires { ⌜ form ≡ formOf (now line) ⌝ }
-    ensures { λ t. ⌜ ((c : Circuit) (o : Opened) (l : Bool) → state ≡ encodeLoaded (present c o) l →
-        areGates 16 (lineGates form (now (line .entry))) ≡ true →
-        length (c .gates) + length (lineGates form (now (line .entry))) ≤ length (now (history .entry)) →
-        (t .state ≡ encodeLoaded (withGates c o (lineGates form (now (line .entry))) .after) l) × (t .answer ≡ Answer.Ok) ×
-        (now (history .exit) ≡ stored (length (c .gates)) (lineGates form (now (line .entry))) (now (history .entry)))) ⌝ }
+// A gate behind those held.
+fn with_gate(state: State, history: &mut [u32], g: Gate) -> Turn
+    ensures { λ t. ⌜ Builds (g ∷ []) state (now (history .entry)) (t .state) (t .answer) (now (history .exit)) ⌝ }
 {
-    let next = crate::gates::take_gates(state, history, line, form);
+    let next = crate::gates::take_gate(state, history, g);
+    let answer = Answer::Ok;
+    Turn {
+        state: next,
+        answer,
+    }
+}
+
+fn ccz_turn(state: State, history: &mut [u32], form: Form) -> Turn
+    ensures { λ t. ⌜ ((i j k : ℕ) → form ≡ Form.Ccz i j k →
+        Builds (Gate.Ccz i j k ∷ []) state (now (history .entry)) (t .state) (t .answer) (now (history .exit))) ⌝ }
+{
+    let Form::Ccz(i, j, k) = form else {
+        return turned_back(state, form);
+    };
+    with_gate(state, history, Gate::Ccz(i, j, k))
+}
+
+fn cz_turn(state: State, history: &mut [u32], form: Form) -> Turn
+    ensures { λ t. ⌜ ((p q : Spot) → form ≡ Form.Cz p q →
+        Builds (Gate.Cz p q ∷ []) state (now (history .entry)) (t .state) (t .answer) (now (history .exit))) ⌝ }
+{
+    let Form::Cz(p, q) = form else {
+        return turned_back(state, form);
+    };
+    with_gate(state, history, Gate::Cz(p, q))
+}
+
+fn cnot_turn(state: State, history: &mut [u32], form: Form) -> Turn
+    ensures { λ t. ⌜ ((C : Colour) (c d : ℕ) → form ≡ Form.Cnot C c d →
+        Builds (Gate.Cnot C c d ∷ []) state (now (history .entry)) (t .state) (t .answer) (now (history .exit))) ⌝ }
+{
+    let Form::Cnot(colour, control, target) = form else {
+        return turned_back(state, form);
+    };
+    with_gate(state, history, Gate::Cnot(colour, control, target))
+}
+
+fn layer_turn(state: State, history: &mut [u32], line: &[u8], form: Form) -> Turn
+    requires { ⌜ form ≡ heldReading (readingOf (now line)) ⌝ }
+    ensures { λ t. ⌜ ((n : ℕ) → form ≡ Form.Layer n →
+        Builds (layerGates (now (line .entry))) state (now (history .entry)) (t .state) (t .answer) (now (history .exit))) ⌝ }
+{
+    let Form::Layer(n) = form else {
+        return turned_back(state, form);
+    };
+    let next = crate::gates::take_layer(state, history, line, n);
     let answer = Answer::Ok;
     Turn {
         state: next,
@@ -102,7 +147,7 @@ fn gate_turn(state: State, history: &mut [u32], line: &[u8], form: Form) -> Turn
 fn undo_turn(state: State, history: &[u32], form: Form) -> Turn
     ensures { λ t. ⌜ ((k : ℕ) (c : Circuit) (o : Opened) (l : Bool) → form ≡ Form.Undo k → SoundCircuit c o → k ≤ length (c .gates) →
         take (length (c .gates)) (now (history .entry)) ≡ map codeOf (c .gates) → state ≡ encodeLoaded (present c o) l →
-        Done c o l form [] (t .state) (t .answer)) ⌝ }
+        Done (withoutLast c o k) l (t .state) (t .answer)) ⌝ }
 {
     let Form::Undo(k) = form else {
         return turned_back(state, form);
@@ -114,7 +159,8 @@ fn undo_turn(state: State, history: &[u32], form: Form) -> Turn
 }
 
 fn start_turn(state: State, form: Form) -> Turn
-    ensures { λ t. ⌜ ((r b g : Bits) → form ≡ Form.Start r b g → Does form state (t .state) (t .answer)) ⌝ }
+    ensures { λ t. ⌜ ((r b g : Bits) → form ≡ Form.Start r b g →
+        Does (λ c o. withNewStart c o (record { red = r .value; blue = b .value; green = g .value })) state (t .state) (t .answer)) ⌝ }
 {
     let Form::Start(r, b, g) = form else {
         return turned_back(state, form);
@@ -126,7 +172,8 @@ fn start_turn(state: State, form: Form) -> Turn
 }
 
 fn amplitude_turn(state: State, form: Form) -> Turn
-    ensures { λ t. ⌜ ((colour : Colour) (r b g : Bits) → form ≡ Form.Amp colour r b g → Does form state (t .state) (t .answer)) ⌝ }
+    ensures { λ t. ⌜ ((C : Colour) (r b g : Bits) → form ≡ Form.Amp C r b g →
+        Does (λ c o. opening c amplitude C (record { red = r .value; blue = b .value; green = g .value })) state (t .state) (t .answer)) ⌝ }
 {
     let Form::Amp(colour, r, b, g) = form else {
         return turned_back(state, form);
@@ -135,7 +182,8 @@ fn amplitude_turn(state: State, form: Form) -> Turn
 }
 
 fn readout_turn(state: State, form: Form) -> Turn
-    ensures { λ t. ⌜ ((colour : Colour) (x y : Bits) → form ≡ Form.Part colour x y → Does form state (t .state) (t .answer)) ⌝ }
+    ensures { λ t. ⌜ ((C : Colour) (x y : Bits) → form ≡ Form.Part C x y →
+        Does (λ c o. opening c readout C (besideUnread C (x .value) (y .value))) state (t .state) (t .answer)) ⌝ }
 {
     let Form::Part(colour, x, y) = form else {
         return turned_back(state, form);
@@ -144,7 +192,7 @@ fn readout_turn(state: State, form: Form) -> Turn
 }
 
 fn step_turn(state: State, form: Form) -> Turn
-    ensures { λ t. ⌜ ((k : ℕ) → form ≡ Form.Step k → Does form state (t .state) (t .answer)) ⌝ }
+    ensures { λ t. ⌜ ((k : ℕ) → form ≡ Form.Step k → Does (λ c o. stepOf c o k) state (t .state) (t .answer)) ⌝ }
 {
     let Form::Step(k) = form else {
         return turned_back(state, form);
@@ -152,9 +200,24 @@ fn step_turn(state: State, form: Form) -> Turn
     crate::sums::step(state, k)
 }
 
-fn terms_turn(state: State) -> Turn
-    ensures { λ t. ⌜ Does Form.Terms state (t .state) (t .answer) ⌝ }
+fn drop_turn(state: State, form: Form) -> Turn
+    ensures { λ t. ⌜ (form ≡ Form.Drop → Does (λ c o. withoutSum c) state (t .state) (t .answer)) ⌝ }
 {
+    let Form::Drop = form else {
+        return turned_back(state, form);
+    };
+    Turn {
+        state: crate::sums::close(state),
+        answer: Answer::Ok,
+    }
+}
+
+fn terms_turn(state: State, form: Form) -> Turn
+    ensures { λ t. ⌜ (form ≡ Form.Terms → Does termsOf state (t .state) (t .answer)) ⌝ }
+{
+    let Form::Terms = form else {
+        return turned_back(state, form);
+    };
     let words = state.polynomial;
     let count = circuit::listing::count(words);
     Turn {
@@ -165,26 +228,23 @@ fn terms_turn(state: State) -> Turn
 
 // A line that no place turned back.
 fn taken(state: State, history: &mut [u32], line: &[u8], form: Form) -> Turn
-    requires { ⌜ form ≡ formOf (now line) ⌝ }
-    ensures { λ t. ⌜ ((e : Engine) → Free e state (now (history .entry)) form (lineGates form (now (line .entry))) →
-        Taken e (now (history .entry)) form (lineGates form (now (line .entry))) (t .state) (t .answer) (now (history .exit))) ⌝ }
+    requires { ⌜ form ≡ heldReading (readingOf (now line)) ⌝ }
+    ensures { λ r. ⌜ ((e : Engine) (t : Typed) → readingOf (now (line .entry)) ≡ typed t → Free e state (now (history .entry)) t →
+        Taken e (now (history .entry)) t (r .state) (r .answer) (now (history .exit))) ⌝ }
 {
     match form {
         Form::Circuit(_) => circuit_turn(state, form),
-        Form::Ccz(_, _, _) => gate_turn(state, history, line, form),
-        Form::Cz(_, _) => gate_turn(state, history, line, form),
-        Form::Cnot(_, _, _) => gate_turn(state, history, line, form),
-        Form::Layer(_) => gate_turn(state, history, line, form),
+        Form::Ccz(_, _, _) => ccz_turn(state, history, form),
+        Form::Cz(_, _) => cz_turn(state, history, form),
+        Form::Cnot(_, _, _) => cnot_turn(state, history, form),
+        Form::Layer(_) => layer_turn(state, history, line, form),
         Form::Undo(_) => undo_turn(state, &*history, form),
         Form::Start(_, _, _) => start_turn(state, form),
         Form::Amp(_, _, _, _) => amplitude_turn(state, form),
         Form::Part(_, _, _) => readout_turn(state, form),
         Form::Step(_) => step_turn(state, form),
-        Form::Drop => Turn {
-            state: crate::sums::close(state),
-            answer: Answer::Ok,
-        },
-        Form::Terms => terms_turn(state),
+        Form::Drop => drop_turn(state, form),
+        Form::Terms => terms_turn(state, form),
         Form::Refused(_) => turned_back(state, form),
     }
 }
@@ -192,7 +252,7 @@ fn taken(state: State, history: &mut [u32], line: &[u8], form: Form) -> Turn
 // A line's turn: it is read, the places are tried, and then it is taken.
 pub(crate) fn turn(state: State, history: &mut [u32], line: &[u8]) -> Turn
     ensures { λ t. ⌜ ((e : Engine) → Holds e state (now (history .entry)) →
-        Turned e (now (history .entry)) (formOf (now (line .entry))) (lineGates (formOf (now (line .entry))) (now (line .entry))) (t .state) (t .answer) (now (history .exit))) ⌝ }
+        Turned e (now (history .entry)) (readingOf (now (line .entry))) (t .state) (t .answer) (now (history .exit))) ⌝ }
 {
     let m = state.m;
     let sum = state.sum;

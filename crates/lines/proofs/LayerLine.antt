@@ -5,14 +5,14 @@ use mathlib.Core.List.{List, map}
 use lib.ListN.{length, length-map}
 use Rattle.gf2.proofs.Impossible.{never}
 use Rattle.circuit.specs.declared.Gate.{Gate}
-use Rattle.circuit.specs.declared.Gate.the-variants.{Ccz, Cz, Cnot}
 use Rattle.lines.specs.declared.Form.the-variants as Form
-use Rattle.lines.specs.Typed.{amp, part, Typed, circuit, gate, layer, undo, start, sum, step, drop as dropped, terms}
+use Rattle.lines.specs.Typed.{Typed, layer}
 use Rattle.lines.specs.Spelling.{Reading, form, refused, readingOf}
-use Rattle.lines.specs.Held.{heldGate, gateForm, held, heldReading}
+use Rattle.lines.specs.Held.{heldGate, heldReading}
 use Rattle.lines.specs.Gates.{layerGates}
 use Rattle.lines.proofs.FormReading.{layer-gates}
 use Rattle.lines.proofs.Readings.{form-read}
+use Rattle.lines.proofs.HeldForms.{HeldAs, layers, held-as}
 
 -- The gates of a line that is read as a layer, as the line hands them on.
 pub handed-on : (l : List ℕ) (gs : List Gate) → readingOf l ≡ form (layer gs) → layerGates l ≡ map heldGate gs
@@ -20,19 +20,11 @@ handed-on l gs h = ap layerGates (form-read l (layer gs) h .spells .is) ∙ laye
 
 -- What is held as a layer was read as one.
 pub held-layer : (r : Reading) (n : ℕ) → heldReading r ≡ Form.Layer n → (gs : List Gate) × (r ≡ form (layer gs)) × (n ≡ length gs)
-unfolding heldReading held gateForm heldGate
-held-layer (form (circuit m)) n h = never (cc)
-held-layer (form (gate (Ccz i j k))) n h = never (cc)
-held-layer (form (gate (Cz p q))) n h = never (cc)
-held-layer (form (gate (Cnot C c t))) n h = never (cc)
-held-layer (form (layer gs)) n h = (gs, refl, cc)
-held-layer (form (undo k)) n h = never (cc)
-held-layer (form (start r b g)) n h = never (cc)
-held-layer (form (sum (amp C r b g))) n h = never (cc)
-held-layer (form (sum (part C x y))) n h = never (cc)
-held-layer (form (step k)) n h = never (cc)
-held-layer (form dropped) n h = never (cc)
-held-layer (form terms) n h = never (cc)
+unfolding heldReading
+held-layer (form t) n h = go (rw h at (held-as t))
+  where
+    go : {t : Typed} {n : ℕ} → HeldAs t (Form.Layer n) → (gs : List Gate) × (form t ≡ form (layer gs)) × (n ≡ length gs)
+    go (layers {gs}) = (gs, refl, refl)
 held-layer (refused e) n h = never (cc)
 
 -- The form of a layer line counts its gates.

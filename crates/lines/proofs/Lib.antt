@@ -6,5 +6,6 @@ pub mod AllowedSpelling
 pub mod FormReading
 pub mod OneSpelling
 pub mod Readings
+pub mod HeldForms
 pub mod LayerLine
 pub mod LayerWalk

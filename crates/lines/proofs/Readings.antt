@@ -10,15 +10,13 @@ use lib.Dec.{ltb}
 use lib.ListN.{length}
 use borrow.Author.Tests.{ltb-true, ltb-false, lt-ltb, le-ltb}
 use Rattle.gf2.proofs.Bits.{and-both}
-use Rattle.gf2.proofs.Impossible.{never}
-use Rattle.circuit.specs.declared.Gate.the-variants.{Ccz, Cz, Cnot}
 use Rattle.text.specs.Spelling.{sameBytes}
 use Rattle.text.proofs.SameBytes.{same-itself, same-equal}
 use Rattle.lines.specs.declared.Form.{Form}
 use Rattle.lines.specs.declared.Form.the-variants as Form
-use Rattle.lines.specs.Typed.{amp, part, Typed, circuit, gate, layer, undo, start, sum, step, drop, terms, row}
+use Rattle.lines.specs.Typed.{Typed, row}
 use Rattle.lines.specs.Spelling.{spelled, allSome, Spells, Reading, form, refused, allAllowed, anyColourTwice, typedOf, shapeAs, readingOf}
-use Rattle.lines.specs.Held.{heldGate, gateForm, held, heldReading}
+use Rattle.lines.specs.Held.{heldReading}
 use Rattle.lines.specs.Forms.{shapeOf}
 use Rattle.lines.proofs.AllowedSpelling.{spelled-allowed}
 use Rattle.lines.proofs.FormReading.{readAs, read-spelled, spelled-read}
@@ -55,22 +53,6 @@ shaped l = go (allSome (row (typedOf l) .strings) && sameBytes l (spelled (typed
     go false q e f = none (λ t s. true≢false (sym (tested l t s) ∙ e))
 
 -- ---- what the code's reader holds
-
--- A form that is held is no refusal.
-pub held-taken : (t : Typed) (n : ℕ) → held t ≡ Form.Refused n → ⊥
-unfolding held gateForm heldGate
-held-taken (circuit m) n h = never (cc)
-held-taken (gate (Ccz i j k)) n h = never (cc)
-held-taken (gate (Cz p q)) n h = never (cc)
-held-taken (gate (Cnot C c t)) n h = never (cc)
-held-taken (layer gs) n h = never (cc)
-held-taken (undo k) n h = never (cc)
-held-taken (start r b g) n h = never (cc)
-held-taken (sum (amp C r b g)) n h = never (cc)
-held-taken (sum (part C x y)) n h = never (cc)
-held-taken (step k) n h = never (cc)
-held-taken drop n h = never (cc)
-held-taken terms n h = never (cc)
 
 -- What the reader holds of a line, place by place, is what is held of what the line spells.
 pub shape-held : (l : List ℕ) → shapeOf l ≡ heldReading (shapeAs l (typedOf l))

@@ -1,19 +1,18 @@
 -- The answer of a step that ends a sum: a readout count or an amplitude of the sum that was open, and of no other line.
 use mathlib.Core.Path.{_≡_, refl}
-use mathlib.Core.List.{List}
 use Prim.Native.Nat.{ℕ, _*_, _^_}
 use lib.IntN.{ℤ}
 use Rattle.gf2.proofs.Impossible.{never}
 use Rattle.circuit.specs.Colours.{first, second}
 use Rattle.circuit.specs.Polynomial.{polynomial}
 use Rattle.slices.specs.Totals.{amplitudeAfter, readoutCount}
-use Rattle.lines.specs.declared.Form.{Form}
+use Rattle.lines.specs.Spelling.{Reading}
 use Rattle.answers.specs.declared.Answer.{Answer}
 use Rattle.answers.specs.declared.Answer.the-variants as Answer
 use Rattle.engine.specs.Engine.{Circuit, Purpose, amplitude, readout, OpenSum, running, Loaded, present}
 use Rattle.engine.specs.Response.{total}
 use Rattle.engine.specs.State.{outputOf}
-use Rattle.engine.proofs.Views.{View, refuses, passesBy, creates, adds, takesBack, starts, opensAmplitude, opensReadout, worksOn, finishes, drops, lists}
+use Rattle.engine.proofs.Views.{View, refuses, creates, adds, takesBack, starts, opensAmplitude, opensReadout, worksOn, finishes, drops, lists}
 
 pub data ReadoutEnd (t n : ℕ) : Loaded → Type 0 where
   counted :
@@ -29,13 +28,12 @@ pub data AmplitudeEnd (s : ℤ) (n : ℕ) : Loaded → Type 0 where
       AmplitudeEnd s n (present c (running o))
 
 pub readout-end :
-    {room : ℕ} {l : List ℕ} {e e' : Loaded} {f : Form} {a : Answer} (t n : ℕ) → View room l e f e' a →
+    {room : ℕ} {e e' : Loaded} {r : Reading} {a : Answer} (t n : ℕ) → View room e r e' a →
     a ≡ Answer.Readout t n → ReadoutEnd t n e
 unfolding total outputOf
 readout-end t n refuses h = never (cc)
-readout-end t n passesBy h = never (cc)
 readout-end t n (creates i low high) h = never (cc)
-readout-end t n (adds g r i w) h = never (cc)
+readout-end t n (adds g v w) h = never (cc)
 readout-end t n takesBack h = never (cc)
 readout-end t n (starts x y z) h = never (cc)
 readout-end t n (opensAmplitude x y z) h = never (cc)
@@ -50,13 +48,12 @@ readout-end t n drops h = never (cc)
 readout-end t n lists h = never (cc)
 
 pub amplitude-end :
-    {room : ℕ} {l : List ℕ} {e e' : Loaded} {f : Form} {a : Answer} (s : ℤ) (n : ℕ) → View room l e f e' a →
+    {room : ℕ} {e e' : Loaded} {r : Reading} {a : Answer} (s : ℤ) (n : ℕ) → View room e r e' a →
     a ≡ Answer.Amplitude s n → AmplitudeEnd s n e
 unfolding total outputOf
 amplitude-end s n refuses h = never (cc)
-amplitude-end s n passesBy h = never (cc)
 amplitude-end s n (creates i low high) h = never (cc)
-amplitude-end s n (adds g r i w) h = never (cc)
+amplitude-end s n (adds g v w) h = never (cc)
 amplitude-end s n takesBack h = never (cc)
 amplitude-end s n (starts x y z) h = never (cc)
 amplitude-end s n (opensAmplitude x y z) h = never (cc)

@@ -4,5 +4,4 @@ pub mod Counts
 pub mod Moments
 pub mod Steps
 pub mod Runs
-pub mod TypedStrings
 pub mod ByContract

@@ -5,14 +5,15 @@ use mathlib.Core.List.{List, [], _∷_, _++_}
 use Prim.Native.Nat.{ℕ}
 use lib.ListN.{length}
 use Rattle.text.specs.Reading.{begins}
-use Rattle.lines.specs.Forms.{formOf}
+use Rattle.text.specs.Spelling.{sameBytes}
+use Rattle.lines.specs.Spelling.{readingOf}
 use Rattle.engine.specs.declared.State.{State}
 use Rattle.engine.specs.Engine.{Loaded, Engine, freshEngine}
 use Rattle.engine.specs.State.{encode, Holds}
 use Rattle.engine.specs.Calls.{response, Given, FetchGiven}
 use Rattle.engine.proofs.Keeping.{fresh-held, held-on}
 use Rattle.engine.proofs.Outcomes.{Outcome, silent, spoken, outcome, bytes-given, Shown, shown, bytes-fetched}
-use Rattle.runs.specs.Runs.{LineCall, FetchCall, Call, line, fetch, Kept, Run, answerOf, shownBy, sameBytes, isOk, isLeft, Log, emptyLog, logged, logFrom, logOf}
+use Rattle.runs.specs.Runs.{LineCall, FetchCall, Call, line, fetch, Kept, Run, answerOf, shownBy, isOk, isLeft, Log, emptyLog, logged, logFrom, logOf}
 use Rattle.runs.proofs.Following.{bookOf, Follows, loggedBy, logged-by, logged-quiet, followed}
 
 -- Calls that do, one after the other, what is given from an engine and its history.
@@ -73,9 +74,9 @@ done g c cs m =
 -- The log follows any outcome.
 pub outcome-followed :
     {room : ℕ} {l : List ℕ} {e e' : Loaded} {a : List ℕ} (g : Log) → Outcome room l e e' a → Follows e g →
-    Follows e' (loggedBy g (formOf l) l a)
+    Follows e' (loggedBy g (readingOf l) a)
 unfolding isOk sameBytes isLeft begins
-outcome-followed {l = l} g silent t = rw (logged-quiet g (formOf l) l [] refl refl) t
+outcome-followed {l = l} g silent t = rw (logged-quiet g (readingOf l) [] refl refl) t
 outcome-followed g (spoken v) t = followed g v t
 
 unfoldable pub next : (g : Log) (c : Call) (cs : List Call) → Moment g (c ∷ cs) → Moment (logged g c) cs

@@ -1,27 +1,29 @@
 -- Steps reach the end: from an accepted `part` on the sum stays open, and has worked through the k of the accepted steps, until they reach
 -- 2^m or a `drop` is accepted. So the step that reaches it answers the readout count.
 use mathlib.Core.Path.{_≡_, refl, ap, sym, _∙_, subst}
-use mathlib.Core.Bool.{true, false, true≢false, false≢true}
+use mathlib.Core.Bool.{Bool, true, false, _&&_, true≢false, false≢true, and-false}
 use mathlib.Core.List.{List, [], _∷_, _++_}
 use Prim.Native.Nat.{ℕ, suc, _+_, _*_, _^_, _≤_, _<_}
 use native.Mathlib.Nat.{zero-add, add-zero, add-assoc}
 use native.Mathlib.Omega.{arith}
 use Rattle.gf2.proofs.Impossible.{never}
+use Rattle.gf2.specs.Strings.{BitString}
 use Rattle.circuit.specs.declared.Colour.{Colour}
-use Rattle.text.specs.declared.Bits.{Bits}
+use Rattle.text.specs.Spelling.{sameBytes}
 use Rattle.text.specs.Reading.{begins}
-use Rattle.lines.specs.declared.Form.{Form}
-use Rattle.lines.specs.declared.Form.the-variants as Form
-use Rattle.lines.specs.Forms.{formOf}
+use Rattle.lines.specs.declared.Class.the-variants as Class
+use Rattle.lines.specs.Typed.{Typed, part, sum as opens, step, row}
+use Rattle.lines.specs.Spelling.{Reading, form as typed, refused, readingOf}
+use Rattle.refusals.specs.Refusals.{classNumber, isClass}
 use Rattle.answers.specs.declared.Answer.{Answer}
 use Rattle.answers.specs.declared.Answer.the-variants as Answer
 use Rattle.answers.specs.Answers.{bytesOf}
 use Rattle.engine.specs.Engine.{Circuit, Purpose, amplitude, readout, OpenSum, running, Loaded, present}
-use Rattle.engine.specs.Response.{isRunning, sumOpen, total}
-use Rattle.engine.proofs.Views.{View, refuses, passesBy, creates, adds, takesBack, starts, opensAmplitude, opensReadout, worksOn, finishes, drops, lists}
+use Rattle.engine.specs.Response.{openedOf, isRunning, total}
+use Rattle.engine.proofs.Views.{Building, one, many, View, refuses, creates, adds, takesBack, starts, opensAmplitude, opensReadout, worksOn, finishes, drops, lists}
 use Rattle.engine.proofs.Passing.{or-none}
 use Rattle.engine.proofs.Outcomes.{Outcome, silent, spoken}
-use Rattle.runs.specs.Runs.{LineCall, FetchCall, Call, line, fetch, answerOf, Entered, holds, sameBytes, isOk, isLeft, isStepped, stepsOf, isDropped, stepsIn, dropsIn, Log, logged, IsReadout}
+use Rattle.runs.specs.Runs.{LineCall, FetchCall, Call, line, fetch, answerOf, Entered, holds, isOk, isLeft, isAccepted, stepsOf, isDropped, stepsIn, dropsIn, Log, logged, IsReadout}
 use Rattle.runs.proofs.Following.{enteredOf, bookOf, holds-one}
 use Rattle.runs.proofs.Moments.{Moment, done, next}
 
@@ -29,47 +31,35 @@ use Rattle.runs.proofs.Moments.{Moment, done, next}
 data Working (m w : ℕ) : Loaded → Type 0 where
   working : {c : Circuit} {o : OpenSum} → o .purpose ≡ readout → c .m ≡ m → o .worked ≡ w → Working m w (present c (running o))
 
--- An answer that tells of no step adds nothing, whatever the line.
-steps-quiet : (f : Form) (a : List ℕ) → isStepped a ≡ false → stepsOf f a ≡ 0
+-- A line that is not accepted adds nothing.
+steps-quiet : (r : Reading) (a : List ℕ) → isAccepted a ≡ false → stepsOf r a ≡ 0
 unfolding stepsOf
-steps-quiet (Form.Circuit m) a h = refl
-steps-quiet (Form.Ccz i j k) a h = refl
-steps-quiet (Form.Cz s t) a h = refl
-steps-quiet (Form.Cnot C c t) a h = refl
-steps-quiet (Form.Layer n) a h = refl
-steps-quiet (Form.Undo k) a h = refl
-steps-quiet (Form.Start r x g) a h = refl
-steps-quiet (Form.Amp C r x g) a h = refl
-steps-quiet (Form.Part C x y) a h = refl
-steps-quiet (Form.Step k) a h = rw h
-steps-quiet Form.Drop a h = refl
-steps-quiet Form.Terms a h = refl
-steps-quiet (Form.Refused e) a h = refl
+steps-quiet (typed t) a h = rw (h, and-false (isClass Class.Steps (row t .class)))
+steps-quiet (refused n) a h = refl
 
--- A total tells of a step.
-total-stepped : (m : ℕ) (o : OpenSum) (p : Purpose) → isStepped (bytesOf (total m o p)) ≡ true
-unfolding total bytesOf isStepped isLeft begins
-total-stepped m o amplitude = refl
-total-stepped m o readout = refl
+-- A total is an accepted answer.
+total-accepted : (m : ℕ) (o : OpenSum) (p : Purpose) → isAccepted (bytesOf (total m o p)) ≡ true
+unfolding total bytesOf isAccepted begins
+total-accepted m o amplitude = refl
+total-accepted m o readout = refl
 
-quiet-working : {m w : ℕ} {e : Loaded} (f : Form) (a : List ℕ) → isStepped a ≡ false → Working m w e → Working m (w + stepsOf f a) e
-quiet-working {m} {w} f a h k = rw (steps-quiet f a h, add-zero w) k
+quiet-working : {m w : ℕ} {e : Loaded} (r : Reading) (a : List ℕ) → isAccepted a ≡ false → Working m w e → Working m (w + stepsOf r a) e
+quiet-working {m} {w} r a h k = rw (steps-quiet r a h, add-zero w) k
 
-working-open : {m w : ℕ} {e : Loaded} → Working m w e → sumOpen e ≡ true
-unfolding sumOpen isRunning
+working-open : {m w : ℕ} {e : Loaded} → Working m w e → isRunning (openedOf e) ≡ true
+unfolding openedOf isRunning
 working-open (working p q r) = refl
 
 -- ---- one line
 
 -- The sum is opened by an accepted `part`.
 begins-working :
-    {room : ℕ} {l : List ℕ} {e e' : Loaded} {f : Form} {a : Answer} (C : Colour) (x y : Bits) (b : Entered) → View room l e f e' a →
-    f ≡ Form.Part C x y → isLeft (bytesOf a) ≡ true → bookOf e ≡ holds b → Working (b .m) 0 e'
+    {room : ℕ} {e e' : Loaded} {r : Reading} {a : Answer} (C : Colour) (x y : BitString) (b : Entered) → View room e r e' a →
+    r ≡ typed (opens (part C x y)) → isLeft (bytesOf a) ≡ true → bookOf e ≡ holds b → Working (b .m) 0 e'
 unfolding bytesOf isLeft begins bookOf enteredOf
 begins-working C x y b refuses h k q = absurd (false≢true k)
-begins-working C x y b passesBy h _ _ = never (cc)
 begins-working C x y b (creates i low high) h _ _ = never (cc)
-begins-working C x y b (adds g r i w) h k q = absurd (false≢true k)
+begins-working C x y b (adds g v w) h k q = absurd (false≢true k)
 begins-working C x y b takesBack h _ _ = never (cc)
 begins-working C x y b (starts r s t) h _ _ = never (cc)
 begins-working C x y b (opensAmplitude r s t) h _ _ = never (cc)
@@ -81,20 +71,19 @@ begins-working C x y b lists h _ _ = never (cc)
 
 -- A line leaves the sum open while its slices are not all worked.
 works-on :
-    {room m w : ℕ} {l : List ℕ} {e e' : Loaded} {f : Form} {a : Answer} → View room l e f e' a → Working m w e →
-    isDropped f (bytesOf a) ≡ false → w + stepsOf f (bytesOf a) < 2 ^ m → Working m (w + stepsOf f (bytesOf a)) e'
-unfolding bytesOf isOk sameBytes isStepped isLeft begins stepsOf isDropped sumOpen isRunning
-works-on {f = f} (refuses {n = n}) s d h = quiet-working f (bytesOf (Answer.Refused (suc n))) refl s
-works-on {w = w} passesBy s d h = rw (add-zero w) s
+    {room m w : ℕ} {e e' : Loaded} {r : Reading} {a : Answer} → View room e r e' a → Working m w e →
+    isDropped r (bytesOf a) ≡ false → w + stepsOf r (bytesOf a) < 2 ^ m → Working m (w + stepsOf r (bytesOf a)) e'
+unfolding bytesOf isOk sameBytes isAccepted begins stepsOf isDropped row isClass classNumber openedOf isRunning
+works-on {r = r} (refuses {n = n}) s d h = quiet-working r (bytesOf (Answer.Refused (suc n))) refl s
 works-on (creates i low high) s d h = absurd (false≢true (sym i ∙ working-open s))
-works-on (adds g r i n) s d h = absurd (false≢true (working-open s))
+works-on (adds g v n) s d h = absurd (false≢true (working-open s))
 works-on takesBack s d h = absurd (false≢true (working-open s))
 works-on (starts x y z) s d h = absurd (false≢true (working-open s))
 works-on (opensAmplitude x y z) s d h = absurd (false≢true (working-open s))
 works-on (opensReadout x y) s d h = absurd (false≢true (working-open s))
 works-on (worksOn {k = k} n) (working p q r) d h = working p q (ap (λ (v : ℕ). v + k) r)
 works-on (finishes {c = c} {o = o} {k = k} n) (working p q r) d h =
-    let i : o .worked + k < 2 ^ c .m = rw (total-stepped (c .m) o (o .purpose), sym q, sym r) at h in
+    let i : o .worked + k < 2 ^ c .m = rw (total-accepted (c .m) o (o .purpose), sym q, sym r) at h in
     absurd (omega arith)
 works-on drops s d h = absurd (true≢false d)
 works-on lists s d h = absurd (false≢true (working-open s))
@@ -106,13 +95,12 @@ total-readout m o readout h = record { t = _; n = 3 * m; is = refl }
 
 -- The step that reaches the end answers the count.
 ends-working :
-    {room m w : ℕ} {l : List ℕ} {e e' : Loaded} {f : Form} {a : Answer} (k : ℕ) → View room l e f e' a → Working m w e → f ≡ Form.Step k →
-    isStepped (bytesOf a) ≡ true → 2 ^ m ≤ w + k → IsReadout (bytesOf a)
-unfolding bytesOf isStepped isLeft begins sumOpen isRunning
+    {room m w : ℕ} {e e' : Loaded} {r : Reading} {a : Answer} (k : ℕ) → View room e r e' a → Working m w e → r ≡ typed (step k) →
+    isAccepted (bytesOf a) ≡ true → 2 ^ m ≤ w + k → IsReadout (bytesOf a)
+unfolding bytesOf isAccepted begins openedOf isRunning
 ends-working k refuses s e d h = absurd (false≢true d)
-ends-working k passesBy _ e _ _ = never (cc)
 ends-working k (creates i low high) _ e _ _ = never (cc)
-ends-working k (adds g r i n) s e d h = absurd (false≢true (working-open s))
+ends-working k (adds g v n) s e d h = absurd (false≢true (working-open s))
 ends-working k takesBack _ e _ _ = never (cc)
 ends-working k (starts x y z) _ e _ _ = never (cc)
 ends-working k (opensAmplitude x y z) _ e _ _ = never (cc)
@@ -136,14 +124,14 @@ record Underway (m w : ℕ) (calls : List Call) : Type 0 where
 -- A call that is no accepted `drop`, and steps that do not reach the end.
 outcome-works :
     {room m w : ℕ} {l : List ℕ} {e e' : Loaded} {a : List ℕ} → Outcome room l e e' a → Working m w e →
-    isDropped (formOf l) a ≡ false → w + stepsOf (formOf l) a < 2 ^ m → Working m (w + stepsOf (formOf l) a) e'
-unfolding isStepped isLeft begins
-outcome-works {l = l} silent s d h = quiet-working (formOf l) [] refl s
+    isDropped (readingOf l) a ≡ false → w + stepsOf (readingOf l) a < 2 ^ m → Working m (w + stepsOf (readingOf l) a) e'
+unfolding isAccepted begins
+outcome-works {l = l} silent s d h = quiet-working (readingOf l) [] refl s
 outcome-works (spoken v) s d h = works-on v s d h
 
 call-works :
-    {m w : ℕ} (c : LineCall) (calls : List Call) → Underway m w (line c ∷ calls) → isDropped (formOf (c .line)) (answerOf c) ≡ false →
-    w + stepsOf (formOf (c .line)) (answerOf c) < 2 ^ m → Underway m (w + stepsOf (formOf (c .line)) (answerOf c)) calls
+    {m w : ℕ} (c : LineCall) (calls : List Call) → Underway m w (line c ∷ calls) → isDropped (readingOf (c .line)) (answerOf c) ≡ false →
+    w + stepsOf (readingOf (c .line)) (answerOf c) < 2 ^ m → Underway m (w + stepsOf (readingOf (c .line)) (answerOf c)) calls
 unfolding next
 call-works c calls u d h =
     record {
@@ -165,33 +153,33 @@ calls-work :
 unfolding stepsIn dropsIn
 calls-work {w = w} [] calls u d h = rw (add-zero w) u
 calls-work {m} {w} (line c ∷ cs) calls u d h =
-    let k = stepsOf (formOf (c .line)) (answerOf c) in
+    let k = stepsOf (readingOf (c .line)) (answerOf c) in
     let more : w + k + stepsIn cs ≡ w + (k + stepsIn cs) = add-assoc w k (stepsIn cs) in
-    let none = or-none (isDropped (formOf (c .line)) (answerOf c)) (dropsIn cs) d in
+    let none = or-none (isDropped (readingOf (c .line)) (answerOf c)) (dropsIn cs) d in
     subst (λ (n : ℕ). Underway m n calls) more
     (calls-work cs calls (call-works c (cs ++ calls) u (none .0) (fewer w k (stepsIn cs) (2 ^ m) h)) (none .1)
     (subst (λ (n : ℕ). n < 2 ^ m) (sym more) h))
 calls-work (fetch f ∷ cs) calls u d h = calls-work cs calls (fetch-works f (cs ++ calls) u) d h
 
 outcome-begins :
-    {room : ℕ} {l : List ℕ} {e e' : Loaded} {a : List ℕ} (C : Colour) (x y : Bits) (b : Entered) → Outcome room l e e' a →
-    formOf l ≡ Form.Part C x y → isLeft a ≡ true → bookOf e ≡ holds b → Working (b .m) 0 e'
+    {room : ℕ} {l : List ℕ} {e e' : Loaded} {a : List ℕ} (C : Colour) (x y : BitString) (b : Entered) → Outcome room l e e' a →
+    readingOf l ≡ typed (opens (part C x y)) → isLeft a ≡ true → bookOf e ≡ holds b → Working (b .m) 0 e'
 unfolding isLeft begins
 outcome-begins C x y b silent h k q = absurd (false≢true k)
 outcome-begins C x y b (spoken v) h k q = begins-working C x y b v h k q
 
 outcome-ends :
-    {room m w : ℕ} {l : List ℕ} {e e' : Loaded} {a : List ℕ} (k : ℕ) → Outcome room l e e' a → Working m w e → formOf l ≡ Form.Step k →
-    isStepped a ≡ true → 2 ^ m ≤ w + k → IsReadout a
-unfolding isStepped isLeft begins
+    {room m w : ℕ} {l : List ℕ} {e e' : Loaded} {a : List ℕ} (k : ℕ) → Outcome room l e e' a → Working m w e → readingOf l ≡ typed (step k) →
+    isAccepted a ≡ true → 2 ^ m ≤ w + k → IsReadout a
+unfolding isAccepted begins
 outcome-ends k silent s e d h = absurd (false≢true d)
 outcome-ends k (spoken v) s e d h = ends-working k v s e d h
 
 -- From the moment of the `part` on.
 pub steps-end :
-    (g : Log) (p : LineCall) (between : List Call) (c : LineCall) (after : List Call) (C : Colour) (x y : Bits) (b : Entered) (k : ℕ) →
-    Moment g (line p ∷ (between ++ (line c ∷ after))) → formOf (p .line) ≡ Form.Part C x y → isLeft (answerOf p) ≡ true → g .book ≡ holds b →
-    dropsIn between ≡ false → stepsIn between < 2 ^ b .m → formOf (c .line) ≡ Form.Step k → isStepped (answerOf c) ≡ true →
+    (g : Log) (p : LineCall) (between : List Call) (c : LineCall) (after : List Call) (C : Colour) (x y : BitString) (b : Entered) (k : ℕ) →
+    Moment g (line p ∷ (between ++ (line c ∷ after))) → readingOf (p .line) ≡ typed (opens (part C x y)) → isLeft (answerOf p) ≡ true → g .book ≡ holds b →
+    dropsIn between ≡ false → stepsIn between < 2 ^ b .m → readingOf (c .line) ≡ typed (step k) → isAccepted (answerOf c) ≡ true →
     2 ^ b .m ≤ stepsIn between + k → IsReadout (answerOf c)
 unfolding next
 steps-end g p between c after C x y b k m form left book none few step stepped all =

@@ -1,11 +1,11 @@
 -- Runs, for demand 3 (document 01, "Runs"): a list of calls, the book that is kept of their lines and answers alone, and the claim.
-use mathlib.Core.Bool.{Bool, true, false, cond, _||_}
+use mathlib.Core.Bool.{Bool, true, false, not, cond, _&&_, _||_}
 use mathlib.Core.List.{List, [], _∷_, _++_}
 use mathlib.Core.Path.{_≡_}
 use Prim.Native.Nat.{ℕ, _+_, _-_, _*_, _^_, _≤_, _<_}
 use lib.Dec.{eqb}
 use lib.IntN.{ℤ, pos, _*ℤ_}
-use lib.ListN.{length, take}
+use lib.ListN.{length, getD, take}
 use Rattle.gf2.specs.Strings.{BitString}
 use Rattle.gf2.specs.Sums.{sum}
 use Rattle.gf2.specs.Words.{highFirst}
@@ -15,12 +15,13 @@ use Rattle.circuit.specs.Colours.{join}
 use Rattle.circuit.specs.Sum.{Basis, signedSum}
 use Rattle.slices.specs.Rank.{tally}
 use Rattle.slices.specs.Totals.{withStart}
-use Rattle.text.specs.Spelling.{bytes}
+use Rattle.text.specs.Spelling.{bytes, sameBytes}
 use Rattle.text.specs.Reading.{begins}
-use Rattle.text.specs.declared.Bits.{Bits}
-use Rattle.lines.specs.declared.Form.{Form}
-use Rattle.lines.specs.declared.Form.the-variants as Form
-use Rattle.lines.specs.Forms.{formOf}
+use Rattle.lines.specs.declared.Class.{Class}
+use Rattle.lines.specs.declared.Class.the-variants.{Creates, Builds, TakesBack, Starts, Opens, Steps, Drops, Lists}
+use Rattle.lines.specs.Typed.{Asked, amp, part, sum as opens, step, Row, row}
+use Rattle.lines.specs.Spelling.{Reading, form as typed, refused, readingOf}
+use Rattle.refusals.specs.Refusals.{isClass}
 use Rattle.answers.specs.declared.Answer.{Answer}
 use Rattle.answers.specs.declared.Answer.the-variants as Answer
 use Rattle.answers.specs.Answers.{bytesOf}
@@ -28,7 +29,6 @@ use Rattle.engine.specs.declared.State.{State}
 use Rattle.engine.specs.declared.Reply.{Reply}
 use Rattle.engine.specs.declared.Fetched.{Fetched}
 use Rattle.engine.specs.Engine.{freshEngine}
-use Rattle.refusals.specs.Refusals.{lineGates}
 use Rattle.engine.specs.State.{encode}
 use Rattle.engine.specs.Calls.{Answered, FetchAnswered}
 
@@ -72,10 +72,6 @@ answerOf c = take (c .reply .len) (c .written)
 unfoldable pub shownBy : FetchCall → List ℕ
 shownBy f = take (f .fetched .len) (f .written)
 
--- A bit string as it was typed.
-unfoldable pub typed : Bits → BitString
-typed b = highFirst (b .len) (b .value)
-
 pub record Entered : Type 0 where
   pub m : ℕ
   pub gates : List Gate
@@ -91,12 +87,6 @@ zeros m = highFirst m 0
 
 unfoldable pub allZeros : ℕ → Basis
 allZeros m = record { red = zeros m; blue = zeros m; green = zeros m }
-
-unfoldable pub sameBytes : List ℕ → List ℕ → Bool
-sameBytes [] [] = true
-sameBytes [] (y ∷ ys) = false
-sameBytes (x ∷ xs) [] = false
-sameBytes (x ∷ xs) (y ∷ ys) = cond (eqb x y) (sameBytes xs ys) false
 
 -- "answered `(ok)`"
 unfoldable pub isOk : List ℕ → Bool
@@ -121,25 +111,27 @@ unfoldable pub setStart : Basis → Book → Book
 setStart s none = none
 setStart s (holds b) = holds (record { m = b .m; gates = b .gates; start = s })
 
--- What a line that was answered `(ok)` does to the book.
-unfoldable pub enter : Form → List Gate → Book → Book
-enter (Form.Circuit m) gs b = entered m
-enter (Form.Ccz i j k) gs b = addGates gs b
-enter (Form.Cz p q) gs b = addGates gs b
-enter (Form.Cnot C c t) gs b = addGates gs b
-enter (Form.Layer n) gs b = addGates gs b
-enter (Form.Undo k) gs b = takeOff k b
-enter (Form.Start r x g) gs b = setStart (record { red = typed r; blue = typed x; green = typed g }) b
-enter (Form.Amp C r x g) gs b = b
-enter (Form.Part C x y) gs b = b
-enter (Form.Step k) gs b = b
-enter Form.Drop gs b = b
-enter Form.Terms gs b = b
-enter (Form.Refused e) gs b = b
+-- R, B and G.
+unfoldable pub inOrder : List BitString → Basis
+inOrder ss = record { red = getD ss 0 []; blue = getD ss 1 []; green = getD ss 2 [] }
 
--- "Anything else, refused lines included, changes nothing."
+-- What a form that was answered `(ok)` does to the book, by its row. "Anything else, refused lines included, changes nothing."
+unfoldable pub enterBy : Class → Row → Book → Book
+enterBy Creates r b = entered (r .number)
+enterBy Builds r b = addGates (r .gates) b
+enterBy TakesBack r b = takeOff (r .number) b
+enterBy Starts r b = setStart (inOrder (r .strings)) b
+enterBy Opens r b = b
+enterBy Steps r b = b
+enterBy Drops r b = b
+enterBy Lists r b = b
+
+unfoldable pub enter : Reading → Book → Book
+enter (typed t) b = enterBy (row t .class) (row t) b
+enter (refused n) b = b
+
 unfoldable pub fed : Book → List ℕ → List ℕ → Book
-fed b l a = cond (isOk a) (enter (formOf l) (lineGates (formOf l) l) b) b
+fed b l a = cond (isOk a) (enter (readingOf l) b) b
 
 -- ---- "take the last line `(part C X Y)` before it that was answered `(left L)`, and the book as it stood there"
 
@@ -156,20 +148,15 @@ pub data LastPart : Type 0 where
 unfoldable pub isLeft : List ℕ → Bool
 isLeft a = begins (bytes "(left ") a
 
-unfoldable pub noted : Book → Form → List ℕ → LastPart → LastPart
-noted b (Form.Circuit m) a p = p
-noted b (Form.Ccz i j k) a p = p
-noted b (Form.Cz s t) a p = p
-noted b (Form.Cnot C c t) a p = p
-noted b (Form.Layer n) a p = p
-noted b (Form.Undo k) a p = p
-noted b (Form.Start r x g) a p = p
-noted b (Form.Amp C r x g) a p = p
-noted b (Form.Part C x y) a p = cond (isLeft a) (last (record { colour = C; x = typed x; y = typed y; book = b })) p
-noted b (Form.Step k) a p = p
-noted b Form.Drop a p = p
-noted b Form.Terms a p = p
-noted b (Form.Refused e) a p = p
+-- The sum that a line asks for, if any.
+unfoldable pub askedIn : Reading → List Asked
+askedIn (typed t) = row t .asked
+askedIn (refused n) = []
+
+unfoldable pub noted : Book → List Asked → List ℕ → LastPart → LastPart
+noted b [] a p = p
+noted b (amp C r x g ∷ qs) a p = p
+noted b (part C x y ∷ qs) a p = cond (isLeft a) (last (record { colour = C; x = x; y = y; book = b })) p
 
 -- The same for `(amp C R B G)`: the output string, and the book as it stood.
 pub record Asked : Type 0 where
@@ -180,21 +167,11 @@ pub data LastAmp : Type 0 where
   noAmp : LastAmp
   lastAmp : Asked → LastAmp
 
-unfoldable pub notedAmp : Book → Form → List ℕ → LastAmp → LastAmp
-notedAmp b (Form.Circuit m) a p = p
-notedAmp b (Form.Ccz i j k) a p = p
-notedAmp b (Form.Cz s t) a p = p
-notedAmp b (Form.Cnot C c t) a p = p
-notedAmp b (Form.Layer n) a p = p
-notedAmp b (Form.Undo k) a p = p
-notedAmp b (Form.Start r x g) a p = p
-notedAmp b (Form.Amp C r x g) a p =
-    cond (isLeft a) (lastAmp (record { output = record { red = typed r; blue = typed x; green = typed g }; book = b })) p
-notedAmp b (Form.Part C x y) a p = p
-notedAmp b (Form.Step k) a p = p
-notedAmp b Form.Drop a p = p
-notedAmp b Form.Terms a p = p
-notedAmp b (Form.Refused e) a p = p
+unfoldable pub notedAmp : Book → List Asked → List ℕ → LastAmp → LastAmp
+notedAmp b [] a p = p
+notedAmp b (amp C r x g ∷ qs) a p =
+    cond (isLeft a) (lastAmp (record { output = record { red = r; blue = x; green = g }; book = b })) p
+notedAmp b (part C x y ∷ qs) a p = p
 
 pub record Log : Type 0 where
   pub book : Book
@@ -208,8 +185,8 @@ unfoldable pub logged : Log → Call → Log
 logged g (line c) =
     record {
       book = fed (g .book) (c .line) (answerOf c);
-      part = noted (g .book) (formOf (c .line)) (answerOf c) (g .part);
-      amp = notedAmp (g .book) (formOf (c .line)) (answerOf c) (g .amp);
+      part = noted (g .book) (askedIn (readingOf (c .line))) (answerOf c) (g .part);
+      amp = notedAmp (g .book) (askedIn (readingOf (c .line))) (answerOf c) (g .amp);
     }
 logged g (fetch f) = g
 
@@ -223,52 +200,30 @@ logOf cs = logFrom emptyLog cs
 
 -- ---- "the k of the accepted steps after an accepted `part` .. with no accepted `drop` before that"
 
--- An accepted step is answered by what is left, or by the total.
-unfoldable pub isStepped : List ℕ → Bool
-isStepped a = isLeft a || (begins (bytes "(part ") a || begins (bytes "(amp ") a)
+-- A line is accepted that has an answer, and no refusal for one.
+unfoldable pub isAccepted : List ℕ → Bool
+isAccepted a = not (eqb (length a) 0) && not (begins (bytes "(no ") a)
 
 -- The k of a line that is an accepted step; any other line adds nothing.
-unfoldable pub stepsOf : Form → List ℕ → ℕ
-stepsOf (Form.Circuit m) a = 0
-stepsOf (Form.Ccz i j k) a = 0
-stepsOf (Form.Cz s t) a = 0
-stepsOf (Form.Cnot C c t) a = 0
-stepsOf (Form.Layer n) a = 0
-stepsOf (Form.Undo k) a = 0
-stepsOf (Form.Start r x g) a = 0
-stepsOf (Form.Amp C r x g) a = 0
-stepsOf (Form.Part C x y) a = 0
-stepsOf (Form.Step k) a = cond (isStepped a) k 0
-stepsOf Form.Drop a = 0
-stepsOf Form.Terms a = 0
-stepsOf (Form.Refused e) a = 0
+unfoldable pub stepsOf : Reading → List ℕ → ℕ
+stepsOf (typed t) a = cond (isClass Steps (row t .class) && isAccepted a) (row t .number) 0
+stepsOf (refused n) a = 0
 
 -- Is the line an accepted `drop`?
-unfoldable pub isDropped : Form → List ℕ → Bool
-isDropped (Form.Circuit m) a = false
-isDropped (Form.Ccz i j k) a = false
-isDropped (Form.Cz s t) a = false
-isDropped (Form.Cnot C c t) a = false
-isDropped (Form.Layer n) a = false
-isDropped (Form.Undo k) a = false
-isDropped (Form.Start r x g) a = false
-isDropped (Form.Amp C r x g) a = false
-isDropped (Form.Part C x y) a = false
-isDropped (Form.Step k) a = false
-isDropped Form.Drop a = isOk a
-isDropped Form.Terms a = false
-isDropped (Form.Refused e) a = false
+unfoldable pub isDropped : Reading → List ℕ → Bool
+isDropped (typed t) a = isClass Drops (row t .class) && isOk a
+isDropped (refused n) a = false
 
 -- The k of the accepted steps among calls, added up.
 unfoldable pub stepsIn : List Call → ℕ
 stepsIn [] = 0
-stepsIn (line c ∷ cs) = stepsOf (formOf (c .line)) (answerOf c) + stepsIn cs
+stepsIn (line c ∷ cs) = stepsOf (readingOf (c .line)) (answerOf c) + stepsIn cs
 stepsIn (fetch f ∷ cs) = stepsIn cs
 
 -- Is a `drop` accepted among calls?
 unfoldable pub dropsIn : List Call → Bool
 dropsIn [] = false
-dropsIn (line c ∷ cs) = isDropped (formOf (c .line)) (answerOf c) || dropsIn cs
+dropsIn (line c ∷ cs) = isDropped (readingOf (c .line)) (answerOf c) || dropsIn cs
 dropsIn (fetch f ∷ cs) = dropsIn cs
 
 -- ---- the claim
@@ -338,11 +293,11 @@ pub record SoundRun (calls : List Call) : Type 0 where
   -- "If the k of the accepted steps after an accepted `part` reach a total of 2^m or more, with no accepted `drop` before that, the step that
   -- first reaches it is answered `(part T n)`." The `part` is p, the step is c, and b is what the book held at p.
   pub ends :
-      (before : List Call) (p : LineCall) (between : List Call) (c : LineCall) (after : List Call) (C : Colour) (x y : Bits) (b : Entered)
+      (before : List Call) (p : LineCall) (between : List Call) (c : LineCall) (after : List Call) (C : Colour) (x y : BitString) (b : Entered)
       (k : ℕ) → calls ≡ before ++ (line p ∷ (between ++ (line c ∷ after))) →
-      formOf (p .line) ≡ Form.Part C x y → isLeft (answerOf p) ≡ true → logOf before .book ≡ holds b →
+      readingOf (p .line) ≡ typed (opens (part C x y)) → isLeft (answerOf p) ≡ true → logOf before .book ≡ holds b →
       dropsIn between ≡ false → stepsIn between < 2 ^ b .m →
-      formOf (c .line) ≡ Form.Step k → isStepped (answerOf c) ≡ true → 2 ^ b .m ≤ stepsIn between + k → IsReadout (answerOf c)
+      readingOf (c .line) ≡ typed (step k) → isAccepted (answerOf c) ≡ true → 2 ^ b .m ≤ stepsIn between + k → IsReadout (answerOf c)
   -- demand 2 at the call: every `(amp S n)` is the signed sum of the book's gates at the output string with the start added
   pub amplitudes :
       (before : List Call) (c : LineCall) (after : List Call) (s : ℤ) (n : ℕ) → calls ≡ before ++ (line c ∷ after) →

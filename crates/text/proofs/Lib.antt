@@ -8,3 +8,4 @@ pub mod DecimalUnique
 pub mod GateItems
 pub mod GatesUnique
 pub mod SameBytes
+pub mod BitNumbers

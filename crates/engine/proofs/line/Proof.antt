@@ -1,6 +1,5 @@
 -- A line of no bytes is skipped, a short buffer is refusal 1, and any other line has its turn, whose answer has room in the 64 bytes.
 use Rattle.engine.proofs.CallLaws.{given-none, given-short, given-answer}
-use mathlib.Core.Path.{refl}
 use borrow.Author.Needs.{needs}
 use Rattle.engine.proofs.line.Statement.{statement}
 use Rattle.engine.proofs.line.Tie as tie
@@ -31,7 +30,7 @@ same-length-2 c = search needs
 
 returns-3 : tie.Need-returns-3
 returns-3 c e h =
-    given-answer e _ _ _ _ h (c .before .before .before .before .before .before .before .before .before .before .before .before .if1 .left) (c .before .before .before .before .before .before .before .before .before .before .before .if2 .left) _ _ _ _ _ _ _ _ refl (c .before .before .before .before .before .before .before .before .before .turn .ensures e h)
+    given-answer e _ _ _ _ h (c .before .before .before .before .before .before .before .before .before .before .before .before .if1 .left) (c .before .before .before .before .before .before .before .before .before .before .before .if2 .left) _ _ _ _ _ _ _ (c .before .before .before .before .before .before .before .before .before .turn .ensures e h)
     (c .before .before .before .before .before .write .ensures) (c .before .has-lines .ensures) (c .refusal-number .ensures)
 
 pub line-spec : {M : Type 1} → statement M

@@ -1,6 +1,6 @@
 -- The form is `amp`, whose turn opens an amplitude.
 use Rattle.engine.proofs.TurnLaws.{own-form}
-use Rattle.engine.specs.Response.{accepted}
+use mathlib.Core.Path.{_≡_}
 use borrow.Author.Needs.{needs}
 use Rattle.engine.proofs.turns.amplitude_turn.Statement.{statement}
 use Rattle.engine.proofs.turns.amplitude_turn.Tie as tie
@@ -12,14 +12,20 @@ turned-back-requires : tie.Need-turned-back-requires
 turned-back-requires c κs = search needs
 
 returns : tie.Need-returns
-returns c C r b g e = own-form 7 (c .before .before .args .form) _ e tt (c .before .match .keys2)
+returns c C r b g e = own-form _ (c .before .before .args .form) _ e tt (c .before .match .keys2)
 
 open-amplitude-requires : tie.Need-open-amplitude-requires
 open-amplitude-requires c κs = search needs
 
 returns-2 : tie.Need-returns-2
-unfolding accepted
-returns-2 c C r b g e = rw (c .before .before .form .given .1) (λ k o l s h. let d = c .open-amplitude .ensures k o l s h in record { state = d .0; answer = d .1 })
+returns-2 c C r b g e k o l s h =
+    let form = c .before .before .form .given in
+    let colour : form .0 .0 ≡ C = cc (form .1) in
+    let red : form .0 .1 ≡ r = cc (form .1) in
+    let blue : form .0 .2 ≡ b = cc (form .1) in
+    let green : form .0 .3 ≡ g = cc (form .1) in
+    let d = c .open-amplitude .ensures k o l s h in
+    rw (← colour, ← red, ← blue, ← green) (record { state = d .0; answer = d .1 })
 
 pub amplitude-turn-spec : {M : Type 1} → statement M
 amplitude-turn-spec =

@@ -1,6 +1,6 @@
 -- The form is `part`, whose turn opens a readout count.
 use Rattle.engine.proofs.TurnLaws.{own-form}
-use Rattle.engine.specs.Response.{accepted}
+use mathlib.Core.Path.{_≡_}
 use borrow.Author.Needs.{needs}
 use Rattle.engine.proofs.turns.readout_turn.Statement.{statement}
 use Rattle.engine.proofs.turns.readout_turn.Tie as tie
@@ -12,14 +12,19 @@ turned-back-requires : tie.Need-turned-back-requires
 turned-back-requires c κs = search needs
 
 returns : tie.Need-returns
-returns c C x y e = own-form 8 (c .before .before .args .form) _ e tt (c .before .match .keys2)
+returns c C x y e = own-form _ (c .before .before .args .form) _ e tt (c .before .match .keys2)
 
 open-readout-requires : tie.Need-open-readout-requires
 open-readout-requires c κs = search needs
 
 returns-2 : tie.Need-returns-2
-unfolding accepted
-returns-2 c C x y e = rw (c .before .before .form .given .1) (λ k o l s h. let d = c .open-readout .ensures k o l s h in record { state = d .0; answer = d .1 })
+returns-2 c C x y e k o l s h =
+    let form = c .before .before .form .given in
+    let colour : form .0 .0 ≡ C = cc (form .1) in
+    let first : form .0 .1 ≡ x = cc (form .1) in
+    let second : form .0 .2 ≡ y = cc (form .1) in
+    let d = c .open-readout .ensures k o l s h in
+    rw (← colour, ← first, ← second) (record { state = d .0; answer = d .1 })
 
 pub readout-turn-spec : {M : Type 1} → statement M
 readout-turn-spec =

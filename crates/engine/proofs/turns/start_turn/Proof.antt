@@ -1,7 +1,7 @@
 -- The form is `start`, whose turn changes the start alone.
 use Rattle.engine.proofs.TurnLaws.{own-form}
-use mathlib.Core.Path.{refl}
-use Rattle.engine.specs.Response.{accepted, withNewStart}
+use mathlib.Core.Path.{_≡_, refl}
+use Rattle.engine.specs.Response.{withNewStart}
 use borrow.Author.Needs.{needs}
 use Rattle.engine.proofs.turns.start_turn.Statement.{statement}
 use Rattle.engine.proofs.turns.start_turn.Tie as tie
@@ -13,14 +13,19 @@ turned-back-requires : tie.Need-turned-back-requires
 turned-back-requires c κs = search needs
 
 returns : tie.Need-returns
-returns c r b g e = own-form 6 (c .before .before .args .form) _ e tt (c .before .match .keys2)
+returns c r b g e = own-form _ (c .before .before .args .form) _ e tt (c .before .match .keys2)
 
 set-start-requires : tie.Need-set-start-requires
 set-start-requires c κs = search needs
 
 returns-2 : tie.Need-returns-2
-unfolding accepted withNewStart
-returns-2 c r b g e = rw (c .before .before .form .given .1) (λ k o l s h. record { state = c .set-start .ensures k o l h; answer = refl })
+unfolding withNewStart
+returns-2 c r b g e k o l s h =
+    let form = c .before .before .form .given in
+    let red : form .0 .0 ≡ r = cc (form .1) in
+    let blue : form .0 .1 ≡ b = cc (form .1) in
+    let green : form .0 .2 ≡ g = cc (form .1) in
+    rw (← red, ← blue, ← green) (record { state = c .set-start .ensures k o l h; answer = refl })
 
 pub start-turn-spec : {M : Type 1} → statement M
 start-turn-spec =

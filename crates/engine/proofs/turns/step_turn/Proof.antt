@@ -1,6 +1,6 @@
 -- The form is `step`, whose turn is that of the open sum.
+use mathlib.Core.Path.{_≡_}
 use Rattle.engine.proofs.TurnLaws.{own-form}
-use Rattle.engine.specs.Response.{accepted}
 use borrow.Author.Needs.{needs}
 use Rattle.engine.proofs.turns.step_turn.Statement.{statement}
 use Rattle.engine.proofs.turns.step_turn.Tie as tie
@@ -12,14 +12,16 @@ turned-back-requires : tie.Need-turned-back-requires
 turned-back-requires c κs = search needs
 
 returns : tie.Need-returns
-returns c k e = own-form 9 (c .before .before .args .form) _ e tt (c .before .match .keys2)
+returns c k e = own-form _ (c .before .before .args .form) _ e tt (c .before .match .keys2)
 
 step-requires : tie.Need-step-requires
 step-requires c κs = search needs
 
 returns-2 : tie.Need-returns-2
-unfolding accepted
-returns-2 c n e = rw (c .before .before .form .given .1) (λ k o l s h. let d = c .step .ensures k o l s h in record { state = d .0; answer = d .1 })
+returns-2 c n e k o l s h =
+    let same : c .before .before .form .given .0 .0 ≡ n = cc (c .before .before .form .given .1) in
+    let d = c .step .ensures k o l s h in
+    rw (← same) (record { state = d .0; answer = d .1 })
 
 pub step-turn-spec : {M : Type 1} → statement M
 step-turn-spec =

@@ -1,21 +1,28 @@
--- The state's words are those of the circuit's polynomial, so the count is its listing's length.
+-- The form is `terms`; the state's words are those of the circuit's polynomial, so the count is its listing's length.
 use mathlib.Core.Path.{ap}
 use Rattle.circuit.specs.Polynomial.{polynomial}
 use Rattle.answers.specs.declared.Answer.the-variants as Answer
-use Rattle.engine.specs.Response.{accepted, termsOf}
+use Rattle.engine.specs.Response.{termsOf}
 use Rattle.engine.specs.declared.State.{State}
 use Rattle.engine.specs.State.{encodeLoaded}
+use Rattle.engine.proofs.TurnLaws.{own-form}
 use borrow.Author.Needs.{needs}
 use Rattle.engine.proofs.turns.terms_turn.Statement.{statement}
 use Rattle.engine.proofs.turns.terms_turn.Tie as tie
 
+turned-back-requires : tie.Need-turned-back-requires
+turned-back-requires c κs = search needs
+
+returns : tie.Need-returns
+returns c e = own-form _ (c .before .before .args .form) _ e tt (c .before .match .keys2)
+
 count-requires : tie.Need-count-requires
 count-requires c κs = search needs
 
-returns : tie.Need-returns
-unfolding accepted termsOf encodeLoaded
-returns c k o l s h =
+returns-2 : tie.Need-returns-2
+unfolding termsOf encodeLoaded
+returns-2 c e k o l s h =
     record { state = h; answer = ap Answer.Terms (c .count .ensures (polynomial (k .gates)) (ap (λ (t : State). t .polynomial) h)) }
 
 pub terms-turn-spec : {M : Type 1} → statement M
-terms-turn-spec = tie.close (tie.spec count-requires returns)
+terms-turn-spec = tie.close (tie.spec turned-back-requires returns count-requires returns-2)

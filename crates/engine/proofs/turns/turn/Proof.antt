@@ -1,4 +1,5 @@
 -- The places look at what the state holds of the engine, so the number found is the engine's refusal; with none the line is taken.
+use mathlib.Core.Path.{refl}
 use Rattle.engine.proofs.TurnRefused.{refused-turn, taken-turn}
 use borrow.Author.Needs.{needs}
 use Rattle.engine.proofs.turns.turn.Statement.{statement}
@@ -11,7 +12,7 @@ try-line-requires : tie.Need-try-line-requires
 try-line-requires c κs = search needs
 
 returns : tie.Need-returns
-returns c e h = refused-turn e _ _ h _ _ _ _ (c .before .before .is-open .ensures) (c .before .try-line .ensures .1) (c .if1 .taken)
+returns c e h = refused-turn e _ _ h _ _ _ (c .before .before .is-open .ensures) (c .before .try-line .ensures .1) (c .if1 .taken)
 
 taken-requires : tie.Need-taken-requires
 taken-requires c κs = search needs
@@ -20,7 +21,10 @@ same-length : tie.Need-same-length
 same-length c = search needs
 
 returns-2 : tie.Need-returns-2
-returns-2 c e h = taken-turn e _ _ h _ _ _ _ (c .before .before .before .before .before .before .is-open .ensures) (c .before .before .before .before .before .try-line .ensures .1) (c .before .before .before .before .if1 .left) _ _ _ (rw (c .before .before .before .before .before .try-line .ensures .0) at (c .before .before .taken .ensures e))
+returns-2 c e h =
+    let tried = c .before .before .before .before .before .try-line .ensures in
+    let summing = c .before .before .before .before .before .before .is-open .ensures in
+    taken-turn e _ _ h _ _ _ summing (tried .1) _ refl (c .before .before .before .before .if1 .left) _ _ _ (c .before .before .taken .ensures e)
 
 pub turn-spec : {M : Type 1} → statement M
 turn-spec =

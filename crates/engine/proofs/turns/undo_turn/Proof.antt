@@ -1,7 +1,7 @@
 -- The form is `undo`; the gates of a circuit of at most 16 positions are gates of one of 16.
 use Rattle.engine.proofs.TurnLaws.{own-form}
 use mathlib.Core.Path.{_≡_, refl}
-use Rattle.engine.specs.Response.{accepted, withoutLast}
+use Rattle.engine.specs.Response.{withoutLast}
 use Rattle.engine.proofs.TurnGates.{gates-more}
 use borrow.Author.Needs.{needs}
 use Rattle.engine.proofs.turns.undo_turn.Statement.{statement}
@@ -14,16 +14,16 @@ turned-back-requires : tie.Need-turned-back-requires
 turned-back-requires c κs = search needs
 
 returns : tie.Need-returns
-returns c n k o l e = own-form 5 (c .before .before .before .args .form) _ e tt (c .before .match .keys2)
+returns c n k o l e = own-form _ (c .before .before .before .args .form) _ e tt (c .before .match .keys2)
 
 undo-requires : tie.Need-undo-requires
 undo-requires c κs = search needs
 
 returns-2 : tie.Need-returns-2
-unfolding accepted withoutLast
+unfolding withoutLast
 returns-2 c n k o l e s b t h =
     let same : c .before .before .form .given .0 .0 ≡ n = cc (c .before .before .form .given .1) in
-    rw e (record { state = rw same at (c .undo .ensures k o l h (gates-more (k .m) 16 (s .most) (k .gates) (s .gates)) (rw same b) t); answer = refl })
+    (record { state = rw same at (c .undo .ensures k o l h (gates-more (k .m) 16 (s .most) (k .gates) (s .gates)) (rw same b) t); answer = refl })
 
 pub undo-turn-spec : {M : Type 1} → statement M
 undo-turn-spec =

@@ -1,0 +1,23 @@
+-- The form is `drop`, whose turn closes the sum.
+use mathlib.Core.Path.{refl}
+use Rattle.engine.specs.Response.{withoutSum}
+use Rattle.engine.proofs.TurnLaws.{own-form}
+use borrow.Author.Needs.{needs}
+use Rattle.engine.proofs.turns.drop_turn.Statement.{statement}
+use Rattle.engine.proofs.turns.drop_turn.Tie as tie
+
+turned-back-requires : tie.Need-turned-back-requires
+turned-back-requires c κs = search needs
+
+returns : tie.Need-returns
+returns c e = own-form _ (c .before .before .args .form) _ e tt (c .before .match .keys2)
+
+close-requires : tie.Need-close-requires
+close-requires c κs = search needs
+
+returns-2 : tie.Need-returns-2
+unfolding withoutSum
+returns-2 c e k o l s h = record { state = c .close .ensures k o l h; answer = refl }
+
+pub drop-turn-spec : {M : Type 1} → statement M
+drop-turn-spec = tie.close (tie.spec turned-back-requires returns close-requires returns-2)

@@ -1,0 +1,38 @@
+-- The form is `layer`: the gates that stand in the line are taken one after the other.
+use mathlib.Core.Path.{refl, sym, _∙_}
+use native.Mathlib.Omega.{arith}
+use denote.Ref.{now}
+use Rattle.lines.proofs.LayerLine.{layer-count}
+use Rattle.engine.specs.Response.{withGates}
+use Rattle.engine.specs.Turns.{extended}
+use Rattle.engine.proofs.TurnLaws.{own-form}
+use borrow.Author.Needs.{needs}
+use Rattle.engine.proofs.turns.layer_turn.Statement.{statement}
+use Rattle.engine.proofs.turns.layer_turn.Tie as tie
+
+enum-known-form : tie.Need-enum-known-form
+enum-known-form c = search needs
+
+turned-back-requires : tie.Need-turned-back-requires
+turned-back-requires c κs = search needs
+
+returns : tie.Need-returns
+returns c n e = own-form _ (c .before .before .args .form) _ e tt (c .before .match .keys2)
+
+take-layer-requires : tie.Need-take-layer-requires
+take-layer-requires c κs = sym (c .before .before .before .before .pre) ∙ c .before .before .form .given .1
+
+same-length : tie.Need-same-length
+same-length c = search needs
+
+returns-2 : tie.Need-returns-2
+unfolding withGates extended
+returns-2 c n e k o l is valid room =
+    let start = c .before .before .before .before .before .before in
+    let form = c .before .before .before .before .form .given in
+    let count = layer-count (now (start .args .line)) (form .0 .0) (sym (start .pre) ∙ form .1) in
+    let t = c .before .before .take-layer .ensures k o l is valid (omega arith) in
+    record { state = t .0; answer = refl; history = t .1 }
+
+pub layer-turn-spec : {M : Type 1} → statement M
+layer-turn-spec = tie.close (tie.spec enum-known-form turned-back-requires returns take-layer-requires same-length returns-2)
