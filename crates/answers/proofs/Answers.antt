@@ -8,10 +8,10 @@ use lib.Dec.{eqb}
 use lib.ListN.{getD, drop}
 use Rattle.circuit.specs.declared.Gate.the-variants.{Ccz, Cz, Cnot}
 use Rattle.text.specs.Spelling.{bytes, decimal, spelledGate}
-use Rattle.text.specs.Items.{isDigit, valueFrom}
+use Rattle.text.specs.Items.{isDigit, valueFrom, pastNumber, gateOf}
 use Rattle.text.proofs.Decimal.{value-decimal, after-decimal}
 use Rattle.text.proofs.DecimalUnique.{signedFrom, afterSigned, value-signed, after-signed}
-use Rattle.text.proofs.GatesUnique.{pastNumber, gateOf, gate-of-line}
+use Rattle.text.proofs.GatesUnique.{gate-of-line}
 use Rattle.answers.specs.declared.Answer.{Answer}
 use Rattle.answers.specs.declared.Answer.the-variants.{Ok, Left, Amplitude, Readout, Terms, Listed, Refused}
 use Rattle.answers.specs.Answers.{bytesOf}

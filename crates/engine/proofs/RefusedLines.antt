@@ -59,16 +59,14 @@ module _ (e : Engine) (h line : List ℕ) where
 -- ---- its number
 
 turn-bound : (e : Loaded) (room : ℕ) (line : List ℕ) → refusalNumber (turnOf e room (readingOf line) .answer) ≤ 13
-unfolding turnOf
+unfolding turnOf turnBy refusalNumber
 turn-bound e room line = go (readingOf line) refl
   where
     by : (t : Typed) (n : ℕ) → n ≤ 13 → refusalNumber (turnBy n e t .answer) ≤ 13
-    unfolding turnBy refusalNumber
     by t zero p = omega (arith, accepted-number (circuitOf e) (openedOf e) t)
     by t (suc n) p = p
 
     go : (r : Reading) → readingOf line ≡ r → refusalNumber (turnOf e room r .answer) ≤ 13
-    unfolding turnOf refusalNumber
     go (typed t) is = by t (refusalOf e room (typed t)) (rw is at (refusal-most e room line))
     go (refused n) is = let k = refused-among line n is in omega arith
 

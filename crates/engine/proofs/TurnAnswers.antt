@@ -133,16 +133,14 @@ accepted-modest c o drop h = tt
 accepted-modest c o terms h = omega (arith, listing-most (polynomial (c .gates)))
 
 turn-modest : (x : Loaded) (room : ℕ) (line : List ℕ) → Sound x → Modest (turnOf x room (readingOf line) .answer)
-unfolding turnOf
+unfolding turnOf turnBy
 turn-modest x room line s = go (readingOf line) refl
   where
     by : (t : Typed) (n : ℕ) → n ≤ 13 → Modest (turnBy n x t .answer)
-    unfolding turnBy
     by t zero l = accepted-modest (circuitOf x) (openedOf x) t (positions-most x s)
     by t (suc n) l = omega arith
 
     go : (r : Reading) → readingOf line ≡ r → Modest (turnOf x room r .answer)
-    unfolding turnOf
     go (typed t) is = by t (refusalOf x room (typed t)) (rw is at (refusal-most x room line))
     go (refused n) is = let k = refused-among line n is in omega arith
 

@@ -1,9 +1,9 @@
 -- What the stages of a turn make of a state: a new circuit, a new start, a line that is no form of a stage's own.
 use mathlib.Core.Path.{_≡_}
-use mathlib.Core.Bool.{Bool, not}
-use mathlib.Core.List.{List}
-use Prim.Native.Nat.{ℕ}
-use lib.Dec.{T}
+use mathlib.Core.Bool.{Bool, not, cond}
+use mathlib.Core.List.{List, [], _∷_, _++_}
+use Prim.Native.Nat.{ℕ, zero, suc}
+use lib.Dec.{eqb, T}
 use denote.Enum.Declared.{tagOf}
 use mir.Val.{hasKey}
 use types.Run.{OneOf, miss}
@@ -17,9 +17,21 @@ use Rattle.engine.specs.State.{numbersOf, encodeSum, encodeLoaded, encod
 
 -- ---- forms
 
--- A stage that finds another form than its own: `keys` numbers the others.
-pub own-form : {A : Type 0} (keys : List ℕ) (form own : Form) → form ≡ own → T (not (hasKey keys (tagOf the-type own))) → OneOf keys (tagOf the-type form) → A
-own-form keys form own e h o = absurd (miss keys (tagOf the-type own) h (rw e at o))
+-- The numbers of the forms, those below n, and all besides one of them.
+abbrev below : ℕ → List ℕ
+below zero = []
+below (suc n) = below n ++ (n ∷ [])
+
+abbrev without : ℕ → List ℕ → List ℕ
+without n [] = []
+without n (k ∷ ks) = cond (eqb k n) ks (k ∷ without n ks)
+
+abbrev pub besides : Form → List ℕ
+besides f = without (tagOf the-type f) (below 13)
+
+-- A stage that finds none but other forms does not find its own.
+pub own-form : {A : Type 0} (form own : Form) → form ≡ own → T (not (hasKey (besides own) (tagOf the-type own))) → OneOf (besides own) (tagOf the-type form) → A
+own-form form own e h o = absurd (miss (besides own) (tagOf the-type own) h (rw e at o))
 
 -- ---- states
 

@@ -102,16 +102,14 @@ module _ (e : Engine) (s : State) (h : List ℕ) (held : Holds e s h) (r : Readi
 
   -- A number that was found turns the line back, and nothing is changed.
   pub refused-turn : (n ≡ 0 → ⊥) → Turned e h r s (Answer.Refused n) h
-  unfolding turnOf refusalNumber encode
+  unfolding turnOf refusalNumber encode turnBy refusalOf refusalBy
   refused-turn some = record { state = held .state ∙ ap (λ (x : Loaded). encodeLoaded x (e .listed)) (sym (back .0)); answer = sym (back .1); history = rw (ne-eqb n 0 some) }
     where
       by : (t : Typed) (k : ℕ) → n ≡ k → (turnBy k (e .loaded) t .after ≡ e .loaded) × (turnBy k (e .loaded) t .answer ≡ Answer.Refused n)
-      unfolding turnBy
       by t zero z = absurd (some z)
       by t (suc k) z = (refl, ap Answer.Refused (sym z))
 
       go : (r : Reading) → n ≡ refusalOf (e .loaded) (length h) r → (turnOf (e .loaded) (length h) r .after ≡ e .loaded) × (turnOf (e .loaded) (length h) r .answer ≡ Answer.Refused n)
-      unfolding turnOf refusalOf refusalBy
       go (typed t) z = by t (refusalOf (e .loaded) (length h) (typed t)) z
       go (refused k) z = (refl, ap Answer.Refused (sym z))
 
@@ -122,14 +120,13 @@ module _ (e : Engine) (s : State) (h : List ℕ) (held : Holds e s h) (r : Readi
   pub taken-turn :
       (l : List ℕ) → r ≡ readingOf l → n ≡ 0 → (s' : State) (a : Answer) (h' : List ℕ) →
       ((t : Typed) → readingOf l ≡ typed t → Free e s h t → Taken e h t s' a h') → Turned e h (readingOf l) s' a h'
-  unfolding turnOf turnBy gatesIn
+  unfolding turnOf turnBy gatesIn refusalOf refusalBy
   taken-turn l same none s' a h' taken = go (readingOf l) refl
     where
       free : refusalOf (e .loaded) (length h) (readingOf l) ≡ 0
       free = ap (refusalOf (e .loaded) (length h)) (sym same) ∙ sym number-found ∙ none
 
       go : (x : Reading) → readingOf l ≡ x → Turned e h x s' a h'
-      unfolding turnOf turnBy gatesIn refusalOf refusalBy
       go (refused k) is =
           let z : k ≡ 0 = rw is at free in
           absurd (omega (arith, refused-among l k is))

@@ -176,7 +176,7 @@ module _ (e : Engine) (s s' : State) (h : List ℕ) (a : Answer) where
     gates-taken :
         {t : Typed} {gs : List Gate} (met : List Gate) → readingOf line ≡ typed t → Building t gs →
         ((m : ℕ) → m ≤ 16 → allInRange m gs ≡ true → met ≡ gs) → Free e s h t → Builds met s h s' a h' → Taken e h t s' a h'
-    unfolding circuitOf openedOf encode places
+    unfolding circuitOf openedOf encode places withGates
     gates-taken {t} {gs} met is b same f d = with-circuit t h' (building-class b) f taken
       where
         taken : (c : Circuit) (o : Opened) (l : Bool) → Free (With (present c o) l) s h t → Taken (With (present c o) l) h t s' a h'
@@ -205,7 +205,7 @@ module _ (e : Engine) (s s' : State) (h : List ℕ) (a : Answer) where
 
     pub cnot-taken : {t : Typed} {C : Colour} {c u : ℕ} → HeldAs t (Form.Cnot C c u) → readingOf line ≡ typed t → Free e s h t → Builds (Gate.Cnot C c u ∷ []) s h s' a h' → Taken e h t s' a h'
     unfolding heldGate
-    cnot-taken (cnots {C} {c} {u}) is f d = gates-taken _ is one (λ m most r. held-inside m most (Gate.Cnot C c u ∷ []) r) f d
+    cnot-taken (cnots {C = C} {c = c} {t = u}) is f d = gates-taken _ is one (λ m most r. held-inside m most (Gate.Cnot C c u ∷ []) r) f d
 
     pub layer-taken : {t : Typed} {n : ℕ} → HeldAs t (Form.Layer n) → readingOf line ≡ typed t → Free e s h t → Builds (layerGates line) s h s' a h' → Taken e h t s' a h'
     layer-taken (layers {gs}) is f d = gates-taken (layerGates line) is many (λ m most r. handed-on line gs is ∙ held-inside m most gs r) f d

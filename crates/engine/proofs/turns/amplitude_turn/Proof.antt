@@ -12,7 +12,7 @@ turned-back-requires : tie.Need-turned-back-requires
 turned-back-requires c κs = search needs
 
 returns : tie.Need-returns
-returns c C r b g e = own-form _ (c .before .before .args .form) _ e tt (c .before .match .keys2)
+returns c C r b g e = own-form (c .before .before .args .form) _ e tt (c .before .match .keys2)
 
 open-amplitude-requires : tie.Need-open-amplitude-requires
 open-amplitude-requires c κs = search needs
@@ -21,9 +21,9 @@ returns-2 : tie.Need-returns-2
 returns-2 c C r b g e k o l s h =
     let form = c .before .before .form .given in
     let colour : form .0 .0 ≡ C = cc (form .1) in
-    let red : form .0 .1 ≡ r = cc (form .1) in
-    let blue : form .0 .2 ≡ b = cc (form .1) in
-    let green : form .0 .3 ≡ g = cc (form .1) in
+    let red : form .0 .1 .0 ≡ r = cc (form .1) in
+    let blue : form .0 .1 .1 .0 ≡ b = cc (form .1) in
+    let green : form .0 .1 .1 .1 .0 ≡ g = cc (form .1) in
     let d = c .open-amplitude .ensures k o l s h in
     rw (← colour, ← red, ← blue, ← green) (record { state = d .0; answer = d .1 })
 

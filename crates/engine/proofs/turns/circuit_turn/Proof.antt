@@ -13,7 +13,7 @@ turned-back-requires : tie.Need-turned-back-requires
 turned-back-requires c κs = search needs
 
 returns : tie.Need-returns
-returns c m e = own-form _ (c .before .before .args .form) _ e tt (c .before .match .keys2)
+returns c m e = own-form (c .before .before .args .form) _ e tt (c .before .match .keys2)
 
 new-circuit-requires : tie.Need-new-circuit-requires
 new-circuit-requires c κs = search needs

@@ -12,7 +12,7 @@ turned-back-requires : tie.Need-turned-back-requires
 turned-back-requires c κs = search needs
 
 returns : tie.Need-returns
-returns c C d u e = own-form _ (c .before .before .args .form) _ e tt (c .before .match .keys2)
+returns c C d u e = own-form (c .before .before .before .args .form) _ e tt (c .before .match .keys2)
 
 with-gate-requires : tie.Need-with-gate-requires
 with-gate-requires c κs = search needs
@@ -22,10 +22,10 @@ same-length c = search needs
 
 returns-2 : tie.Need-returns-2
 returns-2 c C d u e =
-    let form = c .before .before .before .before .form .given in
+    let form = c .before .before .before .before .before .form .given in
     let colour : form .0 .0 ≡ C = cc (form .1) in
-    let control : form .0 .1 ≡ d = cc (form .1) in
-    let target : form .0 .2 ≡ u = cc (form .1) in
+    let control : form .0 .1 .0 ≡ d = cc (form .1) in
+    let target : form .0 .1 .1 .0 ≡ u = cc (form .1) in
     rw (← colour, ← control, ← target) (c .before .before .with-gate .ensures)
 
 pub cnot-turn-spec : {M : Type 1} → statement M

@@ -6,11 +6,14 @@ use borrow.Author.Needs.{needs}
 use Rattle.engine.proofs.turns.drop_turn.Statement.{statement}
 use Rattle.engine.proofs.turns.drop_turn.Tie as tie
 
+enum-told : tie.Need-enum-told
+enum-told c = search needs
+
 turned-back-requires : tie.Need-turned-back-requires
 turned-back-requires c κs = search needs
 
 returns : tie.Need-returns
-returns c e = own-form _ (c .before .before .args .form) _ e tt (c .before .match .keys2)
+returns c e = own-form (c .before .before .args .form) _ e tt (c .before .match .keys2)
 
 close-requires : tie.Need-close-requires
 close-requires c κs = search needs
@@ -20,4 +23,4 @@ unfolding withoutSum
 returns-2 c e k o l s h = record { state = c .close .ensures k o l h; answer = refl }
 
 pub drop-turn-spec : {M : Type 1} → statement M
-drop-turn-spec = tie.close (tie.spec turned-back-requires returns close-requires returns-2)
+drop-turn-spec = tie.close (tie.spec enum-told turned-back-requires returns close-requires returns-2)

@@ -17,10 +17,10 @@ turned-back-requires : tie.Need-turned-back-requires
 turned-back-requires c κs = search needs
 
 returns : tie.Need-returns
-returns c n e = own-form _ (c .before .before .args .form) _ e tt (c .before .match .keys2)
+returns c n e = own-form (c .before .before .before .before .args .form) _ e tt (c .before .match .keys2)
 
 take-layer-requires : tie.Need-take-layer-requires
-take-layer-requires c κs = sym (c .before .before .before .before .pre) ∙ c .before .before .form .given .1
+take-layer-requires c κs = sym (c .before .before .before .before .before .before .pre) ∙ c .before .before .form .given .1
 
 same-length : tie.Need-same-length
 same-length c = search needs
@@ -28,8 +28,8 @@ same-length c = search needs
 returns-2 : tie.Need-returns-2
 unfolding withGates extended
 returns-2 c n e k o l is valid room =
-    let start = c .before .before .before .before .before .before in
-    let form = c .before .before .before .before .form .given in
+    let start = c .before .before .before .before .before .before .before .before .before in
+    let form = c .before .before .before .before .before .form .given in
     let count = layer-count (now (start .args .line)) (form .0 .0) (sym (start .pre) ∙ form .1) in
     let t = c .before .before .take-layer .ensures k o l is valid (omega arith) in
     record { state = t .0; answer = refl; history = t .1 }

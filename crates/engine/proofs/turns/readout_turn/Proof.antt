@@ -12,7 +12,7 @@ turned-back-requires : tie.Need-turned-back-requires
 turned-back-requires c κs = search needs
 
 returns : tie.Need-returns
-returns c C x y e = own-form _ (c .before .before .args .form) _ e tt (c .before .match .keys2)
+returns c C x y e = own-form (c .before .before .args .form) _ e tt (c .before .match .keys2)
 
 open-readout-requires : tie.Need-open-readout-requires
 open-readout-requires c κs = search needs
@@ -21,8 +21,8 @@ returns-2 : tie.Need-returns-2
 returns-2 c C x y e k o l s h =
     let form = c .before .before .form .given in
     let colour : form .0 .0 ≡ C = cc (form .1) in
-    let first : form .0 .1 ≡ x = cc (form .1) in
-    let second : form .0 .2 ≡ y = cc (form .1) in
+    let first : form .0 .1 .0 ≡ x = cc (form .1) in
+    let second : form .0 .1 .1 .0 ≡ y = cc (form .1) in
     let d = c .open-readout .ensures k o l s h in
     rw (← colour, ← first, ← second) (record { state = d .0; answer = d .1 })
 

@@ -13,7 +13,7 @@ turned-back-requires : tie.Need-turned-back-requires
 turned-back-requires c κs = search needs
 
 returns : tie.Need-returns
-returns c r b g e = own-form _ (c .before .before .args .form) _ e tt (c .before .match .keys2)
+returns c r b g e = own-form (c .before .before .args .form) _ e tt (c .before .match .keys2)
 
 set-start-requires : tie.Need-set-start-requires
 set-start-requires c κs = search needs
@@ -23,8 +23,8 @@ unfolding withNewStart
 returns-2 c r b g e k o l s h =
     let form = c .before .before .form .given in
     let red : form .0 .0 ≡ r = cc (form .1) in
-    let blue : form .0 .1 ≡ b = cc (form .1) in
-    let green : form .0 .2 ≡ g = cc (form .1) in
+    let blue : form .0 .1 .0 ≡ b = cc (form .1) in
+    let green : form .0 .1 .1 .0 ≡ g = cc (form .1) in
     rw (← red, ← blue, ← green) (record { state = c .set-start .ensures k o l h; answer = refl })
 
 pub start-turn-spec : {M : Type 1} → statement M

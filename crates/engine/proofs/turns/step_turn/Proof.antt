@@ -12,7 +12,7 @@ turned-back-requires : tie.Need-turned-back-requires
 turned-back-requires c κs = search needs
 
 returns : tie.Need-returns
-returns c k e = own-form _ (c .before .before .args .form) _ e tt (c .before .match .keys2)
+returns c k e = own-form (c .before .before .args .form) _ e tt (c .before .match .keys2)
 
 step-requires : tie.Need-step-requires
 step-requires c κs = search needs

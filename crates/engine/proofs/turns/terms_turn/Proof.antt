@@ -10,11 +10,14 @@ use borrow.Author.Needs.{needs}
 use Rattle.engine.proofs.turns.terms_turn.Statement.{statement}
 use Rattle.engine.proofs.turns.terms_turn.Tie as tie
 
+enum-told : tie.Need-enum-told
+enum-told c = search needs
+
 turned-back-requires : tie.Need-turned-back-requires
 turned-back-requires c κs = search needs
 
 returns : tie.Need-returns
-returns c e = own-form _ (c .before .before .args .form) _ e tt (c .before .match .keys2)
+returns c e = own-form (c .before .before .args .form) _ e tt (c .before .match .keys2)
 
 count-requires : tie.Need-count-requires
 count-requires c κs = search needs
@@ -25,4 +28,4 @@ returns-2 c e k o l s h =
     record { state = h; answer = ap Answer.Terms (c .count .ensures (polynomial (k .gates)) (ap (λ (t : State). t .polynomial) h)) }
 
 pub terms-turn-spec : {M : Type 1} → statement M
-terms-turn-spec = tie.close (tie.spec turned-back-requires returns count-requires returns-2)
+terms-turn-spec = tie.close (tie.spec enum-told turned-back-requires returns count-requires returns-2)

@@ -13,7 +13,7 @@ returns : tie.Need-returns
 returns c = (refl, λ e is. ap Answer.Refused (let same : c .before .form .given .0 .0 ≡ e = cc (c .before .form .given .1) in same))
 
 returns-2 : tie.Need-returns-2
-returns-2 c = (refl, λ e is. own-form _ (c .before .args .form) _ is tt (c .match .keys2))
+returns-2 c = (refl, λ e is. own-form (c .before .args .form) _ is tt (c .match .keys2))
 
 pub turned-back-spec : {M : Type 1} → statement M
 turned-back-spec = tie.close (tie.spec enum-known-form returns returns-2)

@@ -14,7 +14,7 @@ turned-back-requires : tie.Need-turned-back-requires
 turned-back-requires c κs = search needs
 
 returns : tie.Need-returns
-returns c n k o l e = own-form _ (c .before .before .before .args .form) _ e tt (c .before .match .keys2)
+returns c n k o l e = own-form (c .before .before .before .args .form) _ e tt (c .before .match .keys2)
 
 undo-requires : tie.Need-undo-requires
 undo-requires c κs = search needs
