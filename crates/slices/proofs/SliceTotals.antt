@@ -93,30 +93,30 @@ module _ (m : ℕ) (gs : List Gate) (C : Colour) (r b g : ℕ) (table : List ℕ
 few-slices : (m w : ℕ) → m ≤ 16 → w ≤ 2 ^ m → w * 2 ^ (2 * m) ≤ 2 ^ 48
 few-slices m w h l = le-trans (mul-le-mul-right (2 ^ (2 * m)) l) (rw (← pow-add 2 m (2 * m)) (pow-mono {i = m + 2 * m} {j = 48} (omega arith)))
 
-pub amplitude-moderate : (m : ℕ) (f : Polynomial) (C : Colour) (s : Basis) (w : ℕ) → m ≤ 16 → w ≤ 2 ^ m → natAbs (amplitudeAfter m f C s w) ≤ 2 ^ 48
-amplitude-moderate m f C s w h l = omega (arith, amplitudeAfter-bound m f C s w, few-slices m w h l)
+pub amplitude-small : (m : ℕ) (f : Polynomial) (C : Colour) (s : Basis) (w : ℕ) → m ≤ 16 → w ≤ 2 ^ m → natAbs (amplitudeAfter m f C s w) ≤ 2 ^ 48
+amplitude-small m f C s w h l = omega (arith, amplitudeAfter-bound m f C s w, few-slices m w h l)
 
-pub readout-moderate : (m : ℕ) (f : Polynomial) (C : Colour) (X Y : BitString) (w : ℕ) → m ≤ 16 → w ≤ 2 ^ m → readoutAfter m f C X Y w ≤ 2 ^ 48
-readout-moderate m f C X Y w h l = omega (arith, readoutAfter-bound m f C X Y w, few-slices m w h l)
+pub readout-small : (m : ℕ) (f : Polynomial) (C : Colour) (X Y : BitString) (w : ℕ) → m ≤ 16 → w ≤ 2 ^ m → readoutAfter m f C X Y w ≤ 2 ^ 48
+readout-small m f C X Y w h l = omega (arith, readoutAfter-bound m f C X Y w, few-slices m w h l)
 
--- ---- a total that is held
+-- So an open sum's total is one that slices are added to.
+pub amplitude-moderate : (m : ℕ) (f : Polynomial) (C : Colour) (s : Basis) (w : ℕ) → m ≤ 16 → w ≤ 2 ^ m → moderate (amplitudeAfter m f C s w) ≡ true
+amplitude-moderate m f C s w h l = moderate-of (amplitudeAfter m f C s w) (omega (arith, amplitude-small m f C s w h l))
 
--- The totals of an open sum are added to.
-pub amplitude-held : (m : ℕ) (f : Polynomial) (C : Colour) (s : Basis) (w : ℕ) → m ≤ 16 → w ≤ 2 ^ m → moderate (amplitudeAfter m f C s w) ≡ true
-amplitude-held m f C s w h l = moderate-of (amplitudeAfter m f C s w) (omega (arith, amplitude-moderate m f C s w h l))
-
-pub readout-held : (m : ℕ) (f : Polynomial) (C : Colour) (X Y : BitString) (w : ℕ) → m ≤ 16 → w ≤ 2 ^ m → moderateCount (readoutAfter m f C X Y w) ≡ true
+pub readout-moderate : (m : ℕ) (f : Polynomial) (C : Colour) (X Y : BitString) (w : ℕ) → m ≤ 16 → w ≤ 2 ^ m → moderateCount (readoutAfter m f C X Y w) ≡ true
 unfolding moderateCount
-readout-held m f C X Y w h l = le-leb (readoutAfter m f C X Y w) (2 ^ 60) (omega (arith, readout-moderate m f C X Y w h l))
+readout-moderate m f C X Y w h l = le-leb (readoutAfter m f C X Y w) (2 ^ 60) (omega (arith, readout-small m f C X Y w h l))
 
--- From the total after `from` slices the calls answer that after `count` more.
+-- ---- from the calls' promises
+
+-- From the total after `from` slices, the total after `count` more.
 pub amplitude-continued : (m : ℕ) (f : Polynomial) (C : Colour) (s : Basis) (from count : ℕ) (total x : ℤ)
     → x ≡ cond (inRange m from count && moderate total) (total +ℤ amplitudeOver m f C s from count) total
     → m ≤ 16 → from + count ≤ 2 ^ m → total ≡ amplitudeAfter m f C s from → x ≡ amplitudeAfter m f C s (from + count)
 amplitude-continued m f C s from count total x e h l t =
     e
     ∙ ap₂ (λ (a b : Bool). cond (a && b) (total +ℤ amplitudeOver m f C s from count) total) (range-of m from count h l)
-    (ap moderate t ∙ amplitude-held m f C s from h (omega arith))
+    (ap moderate t ∙ amplitude-moderate m f C s from h (omega arith))
     ∙ ap (λ y. y +ℤ amplitudeOver m f C s from count) t
     ∙ sym (amplitude-onward m f C s from count)
 
@@ -126,6 +126,6 @@ pub readout-continued : (m : ℕ) (f : Polynomial) (C : Colour) (X Y : BitString
 readout-continued m f C X Y from count total x e h l t =
     e
     ∙ ap₂ (λ (a b : Bool). cond (a && b) (total + readoutOver m f C X Y from count) total) (range-of m from count h l)
-    (ap moderateCount t ∙ readout-held m f C X Y from h (omega arith))
+    (ap moderateCount t ∙ readout-moderate m f C X Y from h (omega arith))
     ∙ ap (λ (y : ℕ). y + readoutOver m f C X Y from count) t
     ∙ sym (readout-onward m f C X Y from count)

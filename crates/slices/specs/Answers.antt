@@ -24,7 +24,7 @@ use Rattle.slices.specs.Packing.{packedRows}
 unfoldable pub sliceAnswer : ℕ → Polynomial → Colour → Basis → BitString → Slice
 sliceAnswer m f C s z = record { signed = signedPart m f C s z; rank = sliceRank m f C (first C s) (second C s) z }
 
--- "a slice whose inner sum is 0 answers rank 0"
+-- "a slice whose inner sum is 0 answers rank 0"; a number that no slice has answers the same.
 abbrev pub nought : Slice
 nought = record { signed = pos 0; rank = 0 }
 

@@ -45,8 +45,8 @@ packedRows a = tabulate 6 (packedWord a)
 unfoldable pub tableOf : Colour → Polynomial → List ℕ
 tableOf C f = tabulate 102 (λ n. packedWord (λ i j. f (join C (n / 6) i j)) (n % 6))
 
--- What the calls that work slices ask of a table: it is that of the sum of a circuit of m positions, by its gates, at the output string s,
--- sliced on C, as `slices::table` makes it.
+-- All that `slice`, `amplitude` and `readout` ask: the table is the one that `slices::table` makes for the gates of a circuit of m positions
+-- at the output string s, sliced on C.
 pub record Tabled (m : ℕ) (gs : List Gate) (C : Colour) (s : Basis) (table : List ℕ) : Type 0 where
   pub gates : areGates m gs ≡ true
   pub made : table ≡ tableOf C (withOutput s (polynomial gs))

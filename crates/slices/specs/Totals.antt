@@ -66,11 +66,11 @@ withStart t s = record { red = s .red ⊞ t .red; blue = s .blue ⊞ t .blue; gr
 unfoldable pub inRange : ℕ → ℕ → ℕ → Bool
 inRange m from count = leb m 16 && leb (from + count) (2 ^ m)
 
--- A total is at most 2^48 from 0 whatever the circuit. One that is more than 2^60 from it is no sum's, and is not added to: so no addition
--- leaves 64 bits.
+-- An amplitude's total is at most 2^48 from 0, whatever the circuit. One that is more than 2^60 from it is no sum's, and nothing is added to
+-- it: what is added up stays within 64 bits.
 unfoldable pub moderate : ℤ → Bool
 moderate total = leb (natAbs total) (2 ^ 60)
 
--- The same of a readout count.
+-- A readout's total, likewise.
 unfoldable pub moderateCount : ℕ → Bool
 moderateCount total = leb total (2 ^ 60)

@@ -121,33 +121,33 @@ pub fn slice(table: [u64; 102], m: usize, n: usize) -> Slice
 }
 
 // The total of an amplitude with `count` more slices, from slice `from` on. It stays as it is where there are no such slices, and where it
-// is no sum's.
+// is too large for a sum's.
 pub fn amplitude(table: [u64; 102], m: usize, from: usize, count: usize, total: i64) -> i64
     ensures { λ x. ⌜ ((gs : List Gate) (C : Colour) (r b g : ℕ) → Tabled m gs C (strings m r b g) table →
         x ≡ cond (inRange m from count && moderate total) (total +ℤ amplitudeOver m (polynomial gs) C (strings m r b g) from count) total) ⌝ }
 {
     if !in_range(m, from, count) {
-        return total; // no such slices: the amplitude stays
+        return total; // of slices that an amplitude does not have
     }
     if !is_moderate(total) {
-        return total; // no sum's total
+        return total; // no amplitude is so large
     }
     let sums = walk(&table, m, from, count);
     total + sums.signed
 }
 
-// The readout count with `count` more slices, from slice `from` on. It stays as it is where there are no such slices, and where it is no
-// sum's.
+// The readout count with `count` more slices, from slice `from` on. It stays as it is where there are no such slices, and where it is too
+// large for a sum's.
 pub fn readout(table: [u64; 102], m: usize, from: usize, count: usize, total: u64) -> u64
     ensures { λ x. ⌜ ((gs : List Gate) (C : Colour) (r b g : ℕ) → Tabled m gs C (strings m r b g) table →
         x ≡ cond (inRange m from count && moderateCount total)
         (total + readoutOver m (polynomial gs) C (first C (strings m r b g)) (second C (strings m r b g)) from count) total) ⌝ }
 {
     if !in_range(m, from, count) {
-        return total; // no such slices: the count stays
+        return total; // of slices that a readout does not have
     }
     if 1152921504606846976 < total {
-        return total; // no sum's count
+        return total; // no readout count is so large
     }
     let sums = walk(&table, m, from, count);
     total + sums.shares
