@@ -29,9 +29,7 @@ returns-2 c gs C r b g t =
     rw (y, lt-leb (a .total) (2 ^ 60) (c .if2 .taken))
 
 walk-requires : tie.Need-walk-requires
-walk-requires c κs =
-    let a : _ = c .before .before .before .before .args in
-    range-holds (a .m) (a .from) (a .count) (sym (c .before .before .before .in-range .ensures) ∙ not-false _ (c .before .before .if1 .left))
+walk-requires c κs = range-holds _ _ _ (sym (c .before .before .before .in-range .ensures) ∙ not-false _ (c .before .before .if1 .left))
 
 add-result : tie.Need-add-result
 add-result c =

@@ -1,4 +1,4 @@
--- The rows are those of slice n, and their answer is the slice's.
+-- The rows are those of slice n, and their answer is the slice's. A number that no slice has is refused by the definition's own test.
 use mathlib.Core.Path.{_≡_, sym, _∙_, ap}
 use mathlib.Core.Bool.{false, true}
 use native.Mathlib.Omega.{arith}
@@ -26,22 +26,16 @@ returns c gs C r b g t =
     rw n
 
 rows-at-requires : tie.Need-rows-at-requires
-rows-at-requires c κs =
-    let a : _ = c .before .before .before .args in
-    range-holds (a .m) (a .n) 1 (sym (c .before .before .in-range .ensures) ∙ not-false _ (c .before .if1 .left)) .0
+rows-at-requires c κs = range-holds _ _ 1 (sym (c .before .before .in-range .ensures) ∙ not-false _ (c .before .if1 .left)) .0
 
 cast-answer : tie.Need-cast-answer
-cast-answer c =
-    let a : _ = c .before .before .before .before .args in
-    omega (arith, range-holds (a .m) (a .n) 1 (sym (c .before .before .before .in-range .ensures) ∙ not-false _ (c .before .before .if1 .left)) .0)
+cast-answer c = omega (arith, range-holds _ _ 1 (sym (c .before .before .before .in-range .ensures) ∙ not-false _ (c .before .before .if1 .left)) .0)
 
 eliminate-requires : tie.Need-eliminate-requires
 eliminate-requires c κs = search needs
 
 answer-requires : tie.Need-answer-requires
-answer-requires c κs =
-    let a : _ = c .before .before .before .before .before .args in
-    range-holds (a .m) (a .n) 1 (sym (c .before .before .before .before .in-range .ensures) ∙ not-false _ (c .before .before .before .if1 .left)) .0
+answer-requires c κs = range-holds _ _ 1 (sym (c .before .before .before .before .in-range .ensures) ∙ not-false _ (c .before .before .before .if1 .left)) .0
 
 returns-2 : tie.Need-returns-2
 unfolding answerTo answerAt
