@@ -127,7 +127,7 @@ pub fn amplitude(table: [u64; 102], m: usize, from: usize, count: usize, total: 
         x ≡ cond (inRange m from count && moderate total) (total +ℤ amplitudeOver m (polynomial gs) C (strings m r b g) from count) total) ⌝ }
 {
     if !in_range(m, from, count) {
-        return total; // of slices that an amplitude does not have
+        return total; // an amplitude has no such slices
     }
     if !is_moderate(total) {
         return total; // no amplitude is so large
@@ -144,7 +144,7 @@ pub fn readout(table: [u64; 102], m: usize, from: usize, count: usize, total: u6
         (total + readoutOver m (polynomial gs) C (first C (strings m r b g)) (second C (strings m r b g)) from count) total) ⌝ }
 {
     if !in_range(m, from, count) {
-        return total; // of slices that a readout does not have
+        return total; // a readout has no such slices
     }
     if 1152921504606846976 < total {
         return total; // no readout count is so large
