@@ -15,9 +15,9 @@ use borrow.Author.Tests.{lt-ltb, le-ltb, leb-true}
 use Rattle.circuit.specs.declared.Colour.{Colour}
 use Rattle.circuit.specs.declared.Gate.{Gate}
 use Rattle.circuit.specs.Colours.{first, second}
-use Rattle.circuit.specs.Sum.{Basis, areGates}
+use Rattle.circuit.specs.Sum.{Basis}
 use Rattle.circuit.specs.Polynomial.{Polynomial, polynomial}
-use Rattle.slices.specs.Packing.{strings, withOutput, tableOf}
+use Rattle.slices.specs.Packing.{strings, Tabled}
 use Rattle.slices.specs.Totals.{amplitudeAfter, readoutAfter, readoutCount}
 use Rattle.slices.proofs.Bounds.{amplitudeAfter-bound}
 use Rattle.slices.proofs.OutcomeTests.{abs-fits}
@@ -56,9 +56,8 @@ totalOf F m o w = F m (polynomial (o .gates)) (o .colour) (outputOf m o) w
 -- What working through slices promises.
 abbrev pub Worked : {A : Type 0} → Total A → List ℕ → ℕ → ℕ → ℕ → A → A → Type 0
 Worked F table m from count a x =
-    (gs : List Gate) (C : Colour) (r b g : ℕ) → areGates m gs ≡ true → 1 ≤ m → m ≤ 16 →
-    table ≡ tableOf C (withOutput (strings m r b g) (polynomial gs)) → from + count ≤ 2 ^ m → a ≡ F m (polynomial gs) C (strings m r b g) from →
-    x ≡ F m (polynomial gs) C (strings m r b g) (from + count)
+    (gs : List Gate) (C : Colour) (r b g : ℕ) → Tabled m gs C (strings m r b g) table → m ≤ 16 → from + count ≤ 2 ^ m →
+    a ≡ F m (polynomial gs) C (strings m r b g) from → x ≡ F m (polynomial gs) C (strings m r b g) (from + count)
 
 -- A signed number as a word of 64 bits holds it.
 abbrev pub inWord : ℤ → ℤ
@@ -131,10 +130,8 @@ module _ (s : State) (c : Circuit) (o : OpenSum) (l : Bool) (t : SoundCircuit c 
       (o .output .red)
       (o .output .blue)
       (o .output .green)
-      (t .opened .gates)
-      (t .least)
+      (record { gates = t .opened .gates; made = table-held (s .sum) (c .m) o held })
       (t .most)
-      (table-held (s .sum) (c .m) o held)
       b
       e
 

@@ -17,7 +17,7 @@ use Rattle.circuit.specs.Sum.{Basis}
 use Rattle.circuit.specs.Polynomial.{Polynomial, value}
 use Rattle.slices.specs.Slices.{gamma, innerSum}
 use Rattle.slices.specs.Rank.{rank}
-use Rattle.slices.specs.Totals.{isNought, amplitudeAfter, share, tallyBelow, readoutAfter, readoutCount}
+use Rattle.slices.specs.Totals.{isNought, signedPart, amplitudeAfter, share, tallyBelow, readoutAfter, readoutCount}
 
 -- ---- inner sums
 
@@ -45,15 +45,15 @@ signed-abs true x = ap natAbs (negone-*ℤ x) ∙ neg-abs x
 
 -- ---- totals
 
+pub signedPart-bound : (m : ℕ) (f : Polynomial) (C : Colour) (s : Basis) (z : BitString) → natAbs (signedPart m f C s z) ≤ 2 ^ (2 * m)
+signedPart-bound m f C s z =
+    omega (arith, signed-abs (dot (the C s) z) (innerSum m f C (first C s) (second C s) z), innerSum-bound m f C (first C s) (second C s) z)
+
 -- The total of w slices is at most w · 2^(2m).
 pub amplitudeAfter-bound : (m : ℕ) (f : Polynomial) (C : Colour) (s : Basis) (w : ℕ) → natAbs (amplitudeAfter m f C s w) ≤ w * 2 ^ (2 * m)
 unfolding amplitudeAfter
 amplitudeAfter-bound m f C s w =
-    sumBelow-bound w (2 ^ (2 * m)) (λ n. sgn (dot (the C s) (highFirst m n)) *ℤ inner n)
-    (λ n h. omega (arith, signed-abs (dot (the C s) (highFirst m n)) (inner n), innerSum-bound m f C (first C s) (second C s) (highFirst m n)))
-  where
-    inner : ℕ → ℤ
-    inner n = innerSum m f C (first C s) (second C s) (highFirst m n)
+    sumBelow-bound w (2 ^ (2 * m)) (λ n. signedPart m f C s (highFirst m n)) (λ n h. signedPart-bound m f C s (highFirst m n))
 
 pub share-bound : (m : ℕ) (f : Polynomial) (C : Colour) (X Y z : BitString) → share m f C X Y z ≤ 2 ^ (2 * m)
 unfolding share

@@ -7,7 +7,7 @@ use lib.Dec.{leb}
 use lib.IntN.{ℤ, pos, negsuc, natAbs}
 use lib.Signed.{ltZ, leZ}
 use borrow.Author.Tests.{leb-true, leb-false, le-leb, lt-leb, ltb-true, ltb-false}
-use Rattle.slices.specs.Walking.{inRange, moderate}
+use Rattle.slices.specs.Totals.{inRange, moderate}
 
 -- ---- slices
 

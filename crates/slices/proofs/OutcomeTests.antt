@@ -77,17 +77,17 @@ module _ (m : ℕ) (o : Outcome) where
   unfolding answerOf
   answer-crowded q e h = rw (← e, lt-ltb m q h) (go (vanishing o))
     where
-      go : (b : Bool) → nought ≡ cond (b || true) nought (record { inner = sgn (bitAt (o .last) 16) *ℤ pos (2 ^ (2 * m - q)); rank = q })
+      go : (b : Bool) → nought ≡ cond (b || true) nought (record { signed = sgn (bitAt (o .last) 16) *ℤ pos (2 ^ (2 * m - q)); rank = q })
       go true = refl
       go false = refl
 
-  pub answer-kept : (q : ℕ) (x : ℤ) → vanishing o ≡ false → q ≡ cleared o → q ≤ m → x ≡ sgn (bitAt (o .last) 16) *ℤ pos (2 ^ (2 * m - q)) → _≡_ {A = Slice} (record { inner = x; rank = q }) (answerOf m o)
+  pub answer-kept : (q : ℕ) (x : ℤ) → vanishing o ≡ false → q ≡ cleared o → q ≤ m → x ≡ sgn (bitAt (o .last) 16) *ℤ pos (2 ^ (2 * m - q)) → _≡_ {A = Slice} (record { signed = x; rank = q }) (answerOf m o)
   unfolding answerOf
   answer-kept q x v e h p = rw (v, ← e, le-ltb m q h, p)
 
 pub share-le : (m : ℕ) (a : Slice) → m ≤ 16 → shareOf m a ≤ 2 ^ 32
 unfolding shareOf
-share-le m a h = go (isNought (a .inner))
+share-le m a h = go (isNought (a .signed))
   where
     go : (b : Bool) → cond b 0 (2 ^ (2 * m - 2 * a .rank)) ≤ 2 ^ 32
     go true = omega arith

@@ -11,10 +11,11 @@ use lib.IntN.{ℤ, pos, natAbs, _*ℤ_, pos-*ℤ-pos, *ℤ-zero, pos-ne-negsuc}
 use lib.ListN.{length}
 use lib.Pow.{pow-pos, pow-add}
 use borrow.Author.Tests.{le-ltb}
-use Rattle.gf2.specs.Strings.{BitString, dot}
+use Rattle.gf2.specs.Strings.{BitString, dot, isZero}
 use Rattle.gf2.specs.Sums.{sgn}
 use Rattle.gf2.specs.Words.{bitAt, highFirst}
 use Rattle.gf2.proofs.Integers.{one-*ℤ, negone-*ℤ, *ℤ-left-comm}
+use Rattle.gf2.proofs.Strings.{dot-zero}
 use Rattle.gf2.proofs.HighFirst.{length-highFirst}
 use Rattle.circuit.specs.declared.Colour.{Colour}
 use Rattle.circuit.specs.declared.Colour.the-variants.{Red, Blue, Green}
@@ -30,9 +31,9 @@ use Rattle.elimination.proofs.SignedSum.{sizeOf, columns-few}
 use Rattle.slices.specs.declared.slice.Slice.{Slice}
 use Rattle.slices.specs.Slices.{coefficient, gamma, innerSum}
 use Rattle.slices.specs.Rank.{rank}
-use Rattle.slices.specs.Totals.{isNought, sliceRank, share}
+use Rattle.slices.specs.Totals.{isNought, sliceRank, signedPart, share}
 use Rattle.slices.specs.Packing.{strings, withOutput, packedRows}
-use Rattle.slices.specs.Answers.{Answers, nought, cleared, vanishing, answerOf, answerTo, answerAt, shareOf}
+use Rattle.slices.specs.Answers.{sliceAnswer, nought, cleared, vanishing, answerOf, answerTo, answerAt, shareOf}
 use Rattle.slices.proofs.Bounds.{signed-abs}
 use Rattle.slices.proofs.Rank.{IsPower, pow-inj, size-signed, rank-le, innerSum-size}
 use Rattle.slices.proofs.Readout.{nought-signed}
@@ -106,7 +107,7 @@ module _ (m : ℕ) (o : Outcome) (I : ℤ) (r : ℕ) (small : m ≤ 16) (low : r
           sign : s ≡ t .0
           sign = same-sign s (t .0) (2 ^ (m + (16 - q))) (pow-pos (m + (16 - q))) (both ∙ ap (λ (e : ℕ). sgn (t .0) *ℤ pos (2 ^ e)) (sym exponent))
 
-  answer-is : ((answerOf m o) .inner ≡ I) × ((answerOf m o) .rank ≡ cond (isNought I) 0 r)
+  answer-is : ((answerOf m o) .signed ≡ I) × ((answerOf m o) .rank ≡ cond (isNought I) 0 r)
   unfolding answerOf isNought
   answer-is = go (vanishing o) refl
     where
@@ -114,9 +115,9 @@ module _ (m : ℕ) (o : Outcome) (I : ℤ) (r : ℕ) (small : m ≤ 16) (low : r
       s = bitAt (o .last) 16
 
       answered : Bool → Bool → Slice
-      answered a b = cond (a || b) nought (record { inner = sgn s *ℤ pos (2 ^ (2 * m - cleared o)); rank = cleared o })
+      answered a b = cond (a || b) nought (record { signed = sgn s *ℤ pos (2 ^ (2 * m - cleared o)); rank = cleared o })
 
-      go : (a : Bool) → vanishing o ≡ a → ((answered (vanishing o) (ltb m (cleared o))) .inner ≡ I) × ((answered (vanishing o) (ltb m (cleared o))) .rank ≡ cond (isNought I) 0 r)
+      go : (a : Bool) → vanishing o ≡ a → ((answered (vanishing o) (ltb m (cleared o))) .signed ≡ I) × ((answered (vanishing o) (ltb m (cleared o))) .rank ≡ cond (isNought I) 0 r)
       go true v = rw v (sym (when-vanished v), sym (ap (λ x. cond (isNought x) 0 r) (when-vanished v)))
       go false v =
           let k : _ = when-kept v in
@@ -130,9 +131,11 @@ module _ (m : ℕ) (o : Outcome) (I : ℤ) (r : ℕ) (small : m ≤ 16) (low : r
 
 module _ (m : ℕ) (gs : List Gate) (valid : areGates m gs ≡ true) (C : Colour) (s : Basis) (small : m ≤ 16)
     (fits-first : length (first C s) ≤ m) (fits-second : length (second C s) ≤ m) (n : ℕ) where
-  pub slice-answers : Answers m (polynomial gs) C s (highFirst m n) (answerAt m (withOutput s (polynomial gs)) C n)
-  unfolding answerAt answerTo sliceRank
-  slice-answers = record { inner-is = both .0; rank-is = both .1 ∙ ap (λ (b : Bool). cond b 0 (rank m (gamma m f C z))) (sgn-nought (dot (the C s) z) x) }
+  pub slice-answers : answerAt m (withOutput s (polynomial gs)) C n ≡ sliceAnswer m (polynomial gs) C s (highFirst m n)
+  unfolding answerAt answerTo sliceAnswer sliceRank
+  slice-answers =
+      ap₂ (λ y (q : ℕ). record { signed = y; rank = q }) (both .0)
+      (both .1 ∙ ap (λ (b : Bool). cond b 0 (rank m (gamma m f C z))) (sgn-nought (dot (the C s) z) x))
     where
       f : Polynomial
       f = polynomial gs
@@ -146,17 +149,24 @@ module _ (m : ℕ) (gs : List Gate) (valid : areGates m gs ≡ true) (C : Colour
       o : Outcome
       o = outcomeOf (pivots 16 (begun (packedRows (coefficient m (withOutput s f) C z))))
 
-      both : ((answerOf m o) .inner ≡ sgn (dot (the C s) z) *ℤ x) × ((answerOf m o) .rank ≡ cond (isNought (sgn (dot (the C s) z) *ℤ x)) 0 (rank m (gamma m f C z)))
+      both : ((answerOf m o) .signed ≡ sgn (dot (the C s) z) *ℤ x) × ((answerOf m o) .rank ≡ cond (isNought (sgn (dot (the C s) z) *ℤ x)) 0 (rank m (gamma m f C z)))
       both =
           answer-is m o (sgn (dot (the C s) z) *ℤ x) (rank m (gamma m f C z)) small (rank-le m (gamma m f C z))
           (size-signed (dot (the C s) z) (2 * m - rank m (gamma m f C z)) x (innerSum-size C m f (first C s) (second C s) z fits-first fits-second))
           (slice-size m gs valid C s z (length-highFirst m n) small fits-first fits-second)
 
+-- A string of zeros turns no sign: beside it a slice's part is the inner sum itself.
+pub part-beside-zeros : (m : ℕ) (f : Polynomial) (C : Colour) (s : Basis) (z : BitString) → isZero (the C s) ≡ true
+    → signedPart m f C s z ≡ innerSum m f C (first C s) (second C s) z
+unfolding sgn
+part-beside-zeros m f C s z h =
+    ap (λ (b : Bool). sgn b *ℤ innerSum m f C (first C s) (second C s) z) (dot-zero (the C s) z h) ∙ one-*ℤ (innerSum m f C (first C s) (second C s) z)
+
 -- What a slice adds to a readout count is its share.
-pub share-by-answer : (m : ℕ) (f : Polynomial) (C : Colour) (s : Basis) (z : BitString) (a : Slice) → Answers m f C s z a → shareOf m a ≡ share m f C (first C s) (second C s) z
-unfolding shareOf share sliceRank
-share-by-answer m f C s z a h =
-    ap₂ (λ (b : Bool) (q : ℕ). cond b 0 (2 ^ (2 * m - 2 * q))) (ap isNought (h .inner-is) ∙ sgn-nought (dot (the C s) z) x) (h .rank-is)
+pub share-by-answer : (m : ℕ) (f : Polynomial) (C : Colour) (s : Basis) (z : BitString) → shareOf m (sliceAnswer m f C s z) ≡ share m f C (first C s) (second C s) z
+unfolding shareOf share sliceAnswer sliceRank
+share-by-answer m f C s z =
+    ap (λ (b : Bool). cond b 0 (2 ^ (2 * m - 2 * cond (isNought x) 0 (rank m (gamma m f C z))))) (sgn-nought (dot (the C s) z) x)
     ∙ go (isNought x)
   where
     x : ℤ

@@ -37,39 +37,39 @@ unfolding answerOf
 answer-rank m o = go (vanishing o) (ltb m (cleared o)) refl
   where
     go : (a b : Bool) → ltb m (cleared o) ≡ b
-        → (cond (a || b) nought (record { inner = sgn (bitAt (o .last) 16) *ℤ pos (2 ^ (2 * m - cleared o)); rank = cleared o })) .rank ≤ m
+        → (cond (a || b) nought (record { signed = sgn (bitAt (o .last) 16) *ℤ pos (2 ^ (2 * m - cleared o)); rank = cleared o })) .rank ≤ m
     go true b e = omega arith
     go false true e = omega arith
     go false false e = ltb-false m (cleared o) e
 
-answer-abs : (m : ℕ) (o : Outcome) → m ≤ 16 → natAbs ((answerOf m o) .inner) ≤ 2 ^ 32
+answer-abs : (m : ℕ) (o : Outcome) → m ≤ 16 → natAbs ((answerOf m o) .signed) ≤ 2 ^ 32
 unfolding answerOf
 answer-abs m o h = go (vanishing o || ltb m (cleared o))
   where
-    go : (b : Bool) → natAbs ((cond b nought (record { inner = sgn (bitAt (o .last) 16) *ℤ pos (2 ^ (2 * m - cleared o)); rank = cleared o })) .inner) ≤ 2 ^ 32
+    go : (b : Bool) → natAbs ((cond b nought (record { signed = sgn (bitAt (o .last) 16) *ℤ pos (2 ^ (2 * m - cleared o)); rank = cleared o })) .signed) ≤ 2 ^ 32
     go true = omega arith
     go false = omega (arith, signed-abs (bitAt (o .last) 16) (pos (2 ^ (2 * m - cleared o))), pow-mono {i = 2 * m - cleared o} {j = 32} (omega arith))
 
 -- What a caller knows of an answer.
-pub answer-bounds : (m : ℕ) (o : Outcome) (a : Slice) → m ≤ 16 → a ≡ answerOf m o → (a .rank ≤ m) × (natAbs (a .inner) ≤ 2 ^ 32)
+pub answer-bounds : (m : ℕ) (o : Outcome) (a : Slice) → m ≤ 16 → a ≡ answerOf m o → (a .rank ≤ m) × (natAbs (a .signed) ≤ 2 ^ 32)
 answer-bounds m o a h e =
     let p : a .rank ≡ (answerOf m o) .rank = ap (λ (x : Slice). x .rank) e in
-    let q : natAbs (a .inner) ≡ natAbs ((answerOf m o) .inner) = ap (λ (x : Slice). natAbs (x .inner)) e in
+    let q : natAbs (a .signed) ≡ natAbs ((answerOf m o) .signed) = ap (λ (x : Slice). natAbs (x .signed)) e in
     (omega (arith, answer-rank m o), omega (arith, answer-abs m o h))
 
 -- ---- sums
 
-pub plus-abs : (m : ℕ) (a : Slice) (s : Sums) → natAbs ((plusSlice m a s) .inner) ≤ natAbs (s .inner) + natAbs (a .inner)
+pub plus-abs : (m : ℕ) (a : Slice) (s : Sums) → natAbs ((plusSlice m a s) .signed) ≤ natAbs (s .signed) + natAbs (a .signed)
 unfolding plusSlice
-plus-abs m a s = add-abs (s .inner) (a .inner)
+plus-abs m a s = add-abs (s .signed) (a .signed)
 
 pub plus-shares : (m : ℕ) (a : Slice) (s : Sums) → m ≤ 16 → (plusSlice m a s) .shares ≤ s .shares + 2 ^ 32
 unfolding plusSlice
 plus-shares m a s h = omega (arith, share-le m a h)
 
-pub walked-none : (table : List ℕ) (m from : ℕ) → Walked table m from 0 (record { inner = pos 0; shares = 0 })
+pub walked-none : (table : List ℕ) (m from : ℕ) → Walked table m from 0 (record { signed = pos 0; shares = 0 })
 unfolding sumBelow tallyBelow
-walked-none table m from = record { inner-bound = omega arith; shares-bound = omega arith; inner-exact = λ f C e. refl; shares-exact = λ f C e. refl }
+walked-none table m from = record { signed-bound = omega arith; shares-bound = omega arith; signed-exact = λ f C e. refl; shares-exact = λ f C e. refl }
 
 -- The rows are those of slice n.
 abbrev pub RowsAt : List ℕ → ℕ → ℕ → List ℕ → Type 0
@@ -81,9 +81,9 @@ module _ (table : List ℕ) (m from : ℕ) (small : m ≤ 16) where
   walked-more k s rows w e =
       let b : _ = answer-bounds m (outcomeOf (pivots 16 (begun rows))) (answerTo m rows) small refl in
       record {
-        inner-bound = omega (arith, add-abs (s .inner) ((answerTo m rows) .inner), w .inner-bound, b .1);
+        signed-bound = omega (arith, add-abs (s .signed) ((answerTo m rows) .signed), w .signed-bound, b .1);
         shares-bound = omega (arith, share-le m (answerTo m rows) small, w .shares-bound);
-        inner-exact = λ f C q. ap₂ (λ x y. x +ℤ y) (w .inner-exact f C q) (ap (λ (r : List ℕ). (answerTo m r) .inner) (e f C q));
+        signed-exact = λ f C q. ap₂ (λ x y. x +ℤ y) (w .signed-exact f C q) (ap (λ (r : List ℕ). (answerTo m r) .signed) (e f C q));
         shares-exact = λ f C q. ap₂ _+_ (w .shares-exact f C q) (ap (λ (r : List ℕ). shareOf m (answerTo m r)) (e f C q));
       }
 

@@ -24,6 +24,7 @@ use Rattle.circuit.proofs.SignedSum.{signedSum-by-polynomial}
 use Rattle.elimination.proofs.Systems.{Equation, off, offs, pairSum, pairSum-is, systemSum}
 use Rattle.slices.specs.Slices.{along, coefficient, gamma, firstVector, secondVector, innerSum}
 use Rattle.slices.specs.Rank.{times}
+use Rattle.slices.specs.Totals.{signedPart}
 
 pub dots-join : (C : Colour) (s : Basis) (z u v : BitString) → dots s (join C z u v) ≡ dot (the C s) z ⊕ (dot (first C s) u ⊕ dot (second C s) v)
 unfolding dots join the first second
@@ -33,7 +34,7 @@ dots-join Green s z u v = sym (⊕-assoc (dot (s .red) u) (dot (s .blue) v) (dot
 
 -- the slices of colour C, as strings
 pub signedSum-by-slices : (C : Colour) (m : ℕ) (gs : List Gate) (s : Basis) → areGates m gs ≡ true
-    → signedSum m gs s ≡ sum m (λ z. sgn (dot (the C s) z) *ℤ innerSum m (polynomial gs) C (first C s) (second C s) z)
+    → signedSum m gs s ≡ sum m (λ z. signedPart m (polynomial gs) C s z)
 unfolding innerSum
 signedSum-by-slices C m gs s v =
     signedSum-by-polynomial m gs s v

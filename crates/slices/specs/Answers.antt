@@ -1,30 +1,32 @@
--- What a slice answers. The first record is what the public calls promise; the rest is how the code comes to it.
-use mathlib.Core.Path.{_≡_}
+-- What a slice answers. The first two definitions are what the public call promises; the rest is how the code comes to it.
 use mathlib.Core.Bool.{Bool, cond, not, _||_}
 use mathlib.Core.List.{List}
 use Prim.Native.Nat.{ℕ, _-_, _*_, _%_, _^_}
 use lib.Count.{ones}
 use lib.Dec.{ltb}
 use lib.IntN.{pos, _*ℤ_}
-use Rattle.gf2.specs.Strings.{BitString, dot, isZero}
+use Rattle.gf2.specs.Strings.{BitString, isZero}
 use Rattle.gf2.specs.Sums.{sgn}
 use Rattle.gf2.specs.Words.{bitAt, highFirst, lowFirst}
 use Rattle.circuit.specs.declared.Colour.{Colour}
-use Rattle.circuit.specs.Colours.{the, first, second}
+use Rattle.circuit.specs.Colours.{first, second}
 use Rattle.circuit.specs.Sum.{Basis}
 use Rattle.circuit.specs.Polynomial.{Polynomial}
 use Rattle.elimination.specs.declared.Outcome.{Outcome}
 use Rattle.elimination.specs.Rows.{pivots}
 use Rattle.elimination.specs.State.{begun, outcomeOf}
 use Rattle.slices.specs.declared.slice.Slice.{Slice}
-use Rattle.slices.specs.Slices.{coefficient, innerSum}
-use Rattle.slices.specs.Totals.{isNought, sliceRank}
+use Rattle.slices.specs.Slices.{coefficient}
+use Rattle.slices.specs.Totals.{isNought, sliceRank, signedPart}
 use Rattle.slices.specs.Packing.{packedRows}
 
 -- "A slice answers its inner sum and rank": the inner sum with the sign that it has in the signed sum.
-pub record Answers (m : ℕ) (f : Polynomial) (C : Colour) (s : Basis) (z : BitString) (a : Slice) : Type 0 where
-  pub inner-is : a .inner ≡ sgn (dot (the C s) z) *ℤ innerSum m f C (first C s) (second C s) z
-  pub rank-is : a .rank ≡ sliceRank m f C (first C s) (second C s) z
+unfoldable pub sliceAnswer : ℕ → Polynomial → Colour → Basis → BitString → Slice
+sliceAnswer m f C s z = record { signed = signedPart m f C s z; rank = sliceRank m f C (first C s) (second C s) z }
+
+-- "a slice whose inner sum is 0 answers rank 0"; a number that no slice has answers the same.
+abbrev pub nought : Slice
+nought = record { signed = pos 0; rank = 0 }
 
 -- ---- by the elimination of its rows
 
@@ -36,15 +38,11 @@ cleared o = ones (o .columns % 2 ^ 16)
 unfoldable pub vanishing : Outcome → Bool
 vanishing o = bitAt (o .columns) 16 || not (isZero (lowFirst 16 (o .last)))
 
--- "a slice whose inner sum is 0 answers rank 0"
-abbrev pub nought : Slice
-nought = record { inner = pos 0; rank = 0 }
-
 -- A slice of m positions clears at most m columns; an outcome with more is that of no slice.
 unfoldable pub answerOf : ℕ → Outcome → Slice
 answerOf m o =
     cond (vanishing o || ltb m (cleared o)) nought
-    (record { inner = sgn (bitAt (o .last) 16) *ℤ pos (2 ^ (2 * m - cleared o)); rank = cleared o })
+    (record { signed = sgn (bitAt (o .last) 16) *ℤ pos (2 ^ (2 * m - cleared o)); rank = cleared o })
 
 -- The answer by the packed rows, and that of slice n of the polynomial f.
 unfoldable pub answerTo : ℕ → List ℕ → Slice
@@ -55,4 +53,4 @@ answerAt m f C n = answerTo m (packedRows (coefficient m f C (highFirst m n)))
 
 -- What a slice adds to a readout count, by its answer.
 unfoldable pub shareOf : ℕ → Slice → ℕ
-shareOf m a = cond (isNought (a .inner)) 0 (2 ^ (2 * m - 2 * a .rank))
+shareOf m a = cond (isNought (a .signed)) 0 (2 ^ (2 * m - 2 * a .rank))

@@ -1,12 +1,11 @@
 -- From slice to slice: what a step adds to the rows, and what some slices add up to. Only the code's own functions promise these.
 use mathlib.Core.Path.{_≡_}
-use mathlib.Core.Bool.{Bool, _&&_}
+use mathlib.Core.Bool.{Bool}
 use mathlib.Core.List.{List}
 use Prim.Native.Nat.{ℕ, suc, _+_, _-_, _*_, _^_, _≤_}
 use lib.Bits.{bitXor}
 use lib.Count.{trailingZeros}
-use lib.Dec.{leb}
-use lib.IntN.{ℤ, natAbs, _+ℤ_}
+use lib.IntN.{natAbs, _+ℤ_}
 use lib.ListN.{getD}
 use Rattle.gf2.specs.Sums.{parity, sumBelow}
 use Rattle.gf2.specs.Words.{tabulate}
@@ -33,19 +32,11 @@ rowsNext rows steps n = rowsPlus rows steps (trailingZeros 64 n)
 
 -- The sums with one slice more.
 unfoldable pub plusSlice : ℕ → Slice → Sums → Sums
-plusSlice m a s = record { inner = s .inner +ℤ a .inner; shares = s .shares + shareOf m a }
+plusSlice m a s = record { signed = s .signed +ℤ a .signed; shares = s .shares + shareOf m a }
 
 -- The sums of `count` slices from slice `from` on, by a table.
 pub record Walked (table : List ℕ) (m from count : ℕ) (r : Sums) : Type 0 where
-  pub inner-bound : natAbs (r .inner) ≤ count * 2 ^ 32
+  pub signed-bound : natAbs (r .signed) ≤ count * 2 ^ 32
   pub shares-bound : r .shares ≤ count * 2 ^ 32
-  pub inner-exact : (f : Polynomial) (C : Colour) → table ≡ tableOf C f → r .inner ≡ sumBelow count (λ k. (answerAt m f C (from + k)) .inner)
+  pub signed-exact : (f : Polynomial) (C : Colour) → table ≡ tableOf C f → r .signed ≡ sumBelow count (λ k. (answerAt m f C (from + k)) .signed)
   pub shares-exact : (f : Polynomial) (C : Colour) → table ≡ tableOf C f → r .shares ≡ tallyBelow count (λ k. shareOf m (answerAt m f C (from + k)))
-
--- Slices `from` to `from + count` of 2^m, m at most 16.
-unfoldable pub inRange : ℕ → ℕ → ℕ → Bool
-inRange m from count = leb m 16 && leb (from + count) (2 ^ m)
-
--- Totals of real sums are at most 2^48.
-unfoldable pub moderate : ℤ → Bool
-moderate t = leb (natAbs t) (2 ^ 60)

@@ -7,9 +7,10 @@ ghost use Rattle.gf2.specs.Words.{bitAt};
 ghost use Rattle.slices.specs.Answers.{vanishing, answerOf, shareOf};
 use elimination::Outcome;
 
-// A slice's inner sum, with the sign of the slice's string beside the output string's, and its rank.
+// What a slice answers: its part of the signed sum, and its rank. The part is the slice's inner sum with the sign of the slice's string
+// beside the output string's. On a table whose sliced colour has zeros, as every readout's, it is the inner sum itself.
 pub struct Slice {
-    pub inner: i64,
+    pub signed: i64,
     pub rank: u32,
 }
 
@@ -38,14 +39,14 @@ pub(crate) fn answer(m: u32, outcome: Outcome) -> Slice
     ensures { λ r. ⌜ r ≡ answerOf m outcome ⌝ }
 {
     if vanishes(outcome) {
-        return Slice { inner: 0, rank: 0 };
+        return Slice { signed: 0, rank: 0 };
     }
     let rank = u64::count_ones(outcome.columns & 65535);
     if m < rank {
-        return Slice { inner: 0, rank: 0 };
+        return Slice { signed: 0, rank: 0 };
     }
     Slice {
-        inner: signed_power(outcome.last, 2 * m - rank),
+        signed: signed_power(outcome.last, 2 * m - rank),
         rank,
     }
 }
@@ -55,8 +56,8 @@ pub(crate) fn share(m: u32, slice: Slice) -> u64
     requires { ⌜ (m ≤ 16) × (slice .rank ≤ m) ⌝ }
     ensures { λ r. ⌜ r ≡ shareOf m slice ⌝ }
 {
-    let inner = slice.inner;
-    if inner == 0 {
+    let signed = slice.signed;
+    if signed == 0 {
         return 0;
     }
     1 << (2 * m - 2 * slice.rank)

@@ -1,19 +1,18 @@
 // The slices of a sum worked one after the other, and what they add up to.
-ghost use mathlib.Core.Bool.{true};
+ghost use mathlib.Core.Bool.{cond, _&&_};
 ghost use mathlib.Core.List.{List};
 ghost use mathlib.Core.Path.{_≡_};
 ghost use Prim.Native.Nat.{ℕ, _+_, _^_, _≤_};
-ghost use lib.IntN.{natAbs};
+ghost use lib.IntN.{natAbs, _+ℤ_};
 ghost use Rattle.gf2.specs.Words.{highFirst};
 ghost use Rattle.circuit.specs.declared.Colour.{Colour};
 ghost use Rattle.circuit.specs.declared.Gate.{Gate};
 ghost use Rattle.circuit.specs.Colours.{first, second};
-ghost use Rattle.circuit.specs.Sum.{areGates};
 ghost use Rattle.circuit.specs.Polynomial.{polynomial};
-ghost use Rattle.slices.specs.Packing.{tableOf, withOutput, strings};
-ghost use Rattle.slices.specs.Totals.{amplitudeAfter, readoutAfter};
-ghost use Rattle.slices.specs.Answers.{Answers, answerTo};
-ghost use Rattle.slices.specs.Walking.{plusSlice, Walked, inRange, moderate};
+ghost use Rattle.slices.specs.Packing.{strings, Tabled};
+ghost use Rattle.slices.specs.Totals.{amplitudeOver, readoutOver, inRange, moderate, moderateCount};
+ghost use Rattle.slices.specs.Answers.{sliceAnswer, nought, answerTo};
+ghost use Rattle.slices.specs.Walking.{plusSlice, Walked};
 use crate::slice::Slice;
 use crate::slice::answer;
 use crate::slice::share;
@@ -21,26 +20,26 @@ use crate::walk::changes;
 use crate::walk::next_rows;
 use crate::walk::rows_at;
 
-// What some slices add up to: their inner sums, and their shares of a readout count.
+// What some slices add up to: their parts of the signed sum, and their shares of a readout count.
 struct Sums {
-    inner: i64,
+    signed: i64,
     shares: u64,
 }
 
 // One slice more.
 fn with_slice(sums: Sums, m: u32, slice: Slice) -> Sums
-    requires { ⌜ (m ≤ 16) × (slice .rank ≤ m) × (natAbs (slice .inner) ≤ 2 ^ 32) × (natAbs (sums .inner) ≤ 2 ^ 60) × (sums .shares ≤ 2 ^ 60) ⌝ }
+    requires { ⌜ (m ≤ 16) × (slice .rank ≤ m) × (natAbs (slice .signed) ≤ 2 ^ 32) × (natAbs (sums .signed) ≤ 2 ^ 60) × (sums .shares ≤ 2 ^ 60) ⌝ }
     ensures { λ r. ⌜ r ≡ plusSlice m slice sums ⌝ }
 {
     Sums {
-        inner: sums.inner + slice.inner,
+        signed: sums.signed + slice.signed,
         shares: sums.shares + share(m, slice),
     }
 }
 
 // One slice more, by its rows.
 fn with_one(sums: Sums, m: u32, rows: [u64; 6]) -> Sums
-    requires { ⌜ (m ≤ 16) × (natAbs (sums .inner) ≤ 2 ^ 60) × (sums .shares ≤ 2 ^ 60) ⌝ }
+    requires { ⌜ (m ≤ 16) × (natAbs (sums .signed) ≤ 2 ^ 60) × (sums .shares ≤ 2 ^ 60) ⌝ }
     ensures { λ r. ⌜ r ≡ plusSlice m (answerTo m rows) sums ⌝ }
 {
     with_slice(sums, m, answer(m, elimination::eliminate(rows)))
@@ -48,7 +47,7 @@ fn with_one(sums: Sums, m: u32, rows: [u64; 6]) -> Sums
 
 // Two slices more: their eliminations do not wait for each other.
 fn with_two(sums: Sums, m: u32, rows: [u64; 6], others: [u64; 6]) -> Sums
-    requires { ⌜ (m ≤ 16) × (natAbs (sums .inner) ≤ 2 ^ 59) × (sums .shares ≤ 2 ^ 59) ⌝ }
+    requires { ⌜ (m ≤ 16) × (natAbs (sums .signed) ≤ 2 ^ 59) × (sums .shares ≤ 2 ^ 59) ⌝ }
     ensures { λ r. ⌜ r ≡ plusSlice m (answerTo m others) (plusSlice m (answerTo m rows) sums) ⌝ }
 {
     let both = elimination::eliminate_both(rows, others);
@@ -67,7 +66,7 @@ fn walk(table: &[u64; 102], m: usize, from: usize, count: usize) -> Sums
     let size = m as u32;
     let end = from + count;
     let mut sums = Sums {
-        inner: 0,
+        signed: 0,
         shares: 0,
     };
     let mut rows = rows_at(table, m, from);
@@ -109,48 +108,46 @@ fn is_moderate(total: i64) -> bool
     total <= 1152921504606846976
 }
 
-// One slice by its number.
+// One slice by its number; nought for a number that no slice has.
 pub fn slice(table: [u64; 102], m: usize, n: usize) -> Slice
-    ensures { λ x. ⌜ ((gs : List Gate) (C : Colour) (r b g : ℕ) → areGates m gs ≡ true → m ≤ 16 →
-        table ≡ tableOf C (withOutput (strings m r b g) (polynomial gs)) →
-        Answers m (polynomial gs) C (strings m r b g) (highFirst m n) x) ⌝ }
+    ensures { λ x. ⌜ ((gs : List Gate) (C : Colour) (r b g : ℕ) → Tabled m gs C (strings m r b g) table →
+        x ≡ cond (inRange m n 1) (sliceAnswer m (polynomial gs) C (strings m r b g) (highFirst m n)) nought) ⌝ }
 {
-    if 16 < m {
-        return Slice { inner: 0, rank: 0 };
+    if !in_range(m, n, 1) {
+        return Slice { signed: 0, rank: 0 };
     }
     let rows = rows_at(&table, m, n);
     answer(m as u32, elimination::eliminate(rows))
 }
 
-// The total of an amplitude after `count` more slices, from slice `from` on.
+// The total of an amplitude with `count` more slices, from slice `from` on. It stays as it is where there are no such slices, and where it
+// is too large for a sum's.
 pub fn amplitude(table: [u64; 102], m: usize, from: usize, count: usize, total: i64) -> i64
-    ensures { λ x. ⌜ ((gs : List Gate) (C : Colour) (r b g : ℕ) → areGates m gs ≡ true → 1 ≤ m → m ≤ 16 →
-        table ≡ tableOf C (withOutput (strings m r b g) (polynomial gs)) → from + count ≤ 2 ^ m →
-        total ≡ amplitudeAfter m (polynomial gs) C (strings m r b g) from →
-        x ≡ amplitudeAfter m (polynomial gs) C (strings m r b g) (from + count)) ⌝ }
+    ensures { λ x. ⌜ ((gs : List Gate) (C : Colour) (r b g : ℕ) → Tabled m gs C (strings m r b g) table →
+        x ≡ cond (inRange m from count && moderate total) (total +ℤ amplitudeOver m (polynomial gs) C (strings m r b g) from count) total) ⌝ }
 {
     if !in_range(m, from, count) {
-        return total;
+        return total; // an amplitude has no such slices
     }
     if !is_moderate(total) {
-        return total;
+        return total; // no amplitude is so large
     }
     let sums = walk(&table, m, from, count);
-    total + sums.inner
+    total + sums.signed
 }
 
-// The readout count after `count` more slices, from slice `from` on.
+// The readout count with `count` more slices, from slice `from` on. It stays as it is where there are no such slices, and where it is too
+// large for a sum's.
 pub fn readout(table: [u64; 102], m: usize, from: usize, count: usize, total: u64) -> u64
-    ensures { λ x. ⌜ ((gs : List Gate) (C : Colour) (r b g : ℕ) → areGates m gs ≡ true → 1 ≤ m → m ≤ 16 →
-        table ≡ tableOf C (withOutput (strings m r b g) (polynomial gs)) → from + count ≤ 2 ^ m →
-        total ≡ readoutAfter m (polynomial gs) C (first C (strings m r b g)) (second C (strings m r b g)) from →
-        x ≡ readoutAfter m (polynomial gs) C (first C (strings m r b g)) (second C (strings m r b g)) (from + count)) ⌝ }
+    ensures { λ x. ⌜ ((gs : List Gate) (C : Colour) (r b g : ℕ) → Tabled m gs C (strings m r b g) table →
+        x ≡ cond (inRange m from count && moderateCount total)
+        (total + readoutOver m (polynomial gs) C (first C (strings m r b g)) (second C (strings m r b g)) from count) total) ⌝ }
 {
     if !in_range(m, from, count) {
-        return total;
+        return total; // a readout has no such slices
     }
     if 1152921504606846976 < total {
-        return total;
+        return total; // no readout count is so large
     }
     let sums = walk(&table, m, from, count);
     total + sums.shares

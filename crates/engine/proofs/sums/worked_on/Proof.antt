@@ -1,4 +1,6 @@
 -- The total is that of exactly the slices worked, by what the sum was opened for.
+use Rattle.circuit.specs.Polynomial.{polynomial}
+use Rattle.slices.proofs.SliceTotals.{amplitude-continued, readout-continued}
 use Rattle.engine.specs.Engine.{running}
 use Rattle.engine.proofs.SumState.{sum-held, is-open}
 use Rattle.engine.proofs.SumLaws.{amplitude-further, readout-further}
@@ -27,12 +29,16 @@ enum-told-3 c = search needs
 returns : tie.Need-returns
 returns c w o l t h b =
     let a = c .before .before .before .before .before .before .args in
-    amplitude-further (a .state) w o l t h (a .count) (c .amplitude .result) (c .before .before .enum-told .given .1) (c .amplitude .ensures) b
+    amplitude-further (a .state) w o l t h (a .count) (c .amplitude .result) (c .before .before .enum-told .given .1)
+    (λ gs C r d g i. amplitude-continued _ (polynomial gs) C _ _ (a .count) _ _ (c .amplitude .ensures gs C r d g i))
+    b
 
 returns-2 : tie.Need-returns-2
 returns-2 c w o l t h b =
     let a = c .before .before .before .before .before .args in
-    readout-further (a .state) w o l t h (a .count) (c .readout .result) (c .before .enum-told2 .given .1) (c .readout .ensures) b
+    readout-further (a .state) w o l t h (a .count) (c .readout .result) (c .before .enum-told2 .given .1)
+    (λ gs C r d g i. readout-continued _ (polynomial gs) C _ _ _ (a .count) _ _ (c .readout .ensures gs C r d g i))
+    b
 
 returns-3 : tie.Need-returns-3
 returns-3 c w o l t h b =

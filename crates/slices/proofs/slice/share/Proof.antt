@@ -14,7 +14,7 @@ returns : tie.Need-returns
 unfolding shareOf
 returns c =
     let a : _ = c .before .before .args in
-    sym (ap (λ b. cond b 0 (2 ^ (2 * a .m - 2 * a .slice .rank))) (nought-tested (a .slice .inner) (search needs) (c .if1 .taken)))
+    sym (ap (λ b. cond b 0 (2 ^ (2 * a .m - 2 * a .slice .rank))) (nought-tested (a .slice .signed) (search needs) (c .if1 .taken)))
 
 mul-result : tie.Need-mul-result
 mul-result c = search needs
@@ -36,7 +36,7 @@ unfolding shareOf
 returns-2 c =
     let a : _ = c .before .before .before .args in
     one-shifted 64 (2 * a .m - 2 * a .slice .rank) (omega arith)
-    ∙ sym (ap (λ b. cond b 0 (2 ^ (2 * a .m - 2 * a .slice .rank))) (nought-refused (a .slice .inner) (c .before .if1 .left)))
+    ∙ sym (ap (λ b. cond b 0 (2 ^ (2 * a .m - 2 * a .slice .rank))) (nought-refused (a .slice .signed) (c .before .if1 .left)))
 
 pub share-spec : {M : Type 1} → statement M
 share-spec =

@@ -1,19 +1,17 @@
--- The walk's sum is that of the slices asked for. A total that is refused is that of no sum.
+-- The walk's sum is that of the slices asked for. Where the range or the total is refused, the definition leaves the total too.
 use mathlib.Core.Path.{_≡_, sym, _∙_, ap, ap₂}
-use mathlib.Core.Bool.{true, true≢false}
-use Prim.Native.Nat.{_^_, _≤_, _<_}
+use mathlib.Core.Bool.{false, true}
+use Prim.Native.Nat.{_^_, _≤_}
 use native.Mathlib.Omega.{arith}
 use lib.IntN.{natAbs, _+ℤ_}
 use lib.Pow.{pow-mono}
 use mir.Facts.{toZ-ofZ}
 use borrow.Author.Tests.{not-true, not-false}
 use Rattle.gf2.proofs.Bounds.{add-abs}
-use Rattle.circuit.specs.Polynomial.{polynomial}
-use Rattle.slices.specs.Packing.{strings}
-use Rattle.slices.specs.Walking.{moderate}
+use Rattle.slices.specs.Totals.{inRange, moderate}
 use Rattle.slices.proofs.OutcomeTests.{abs-fits}
-use Rattle.slices.proofs.EntryChecks.{range-holds, range-of, moderate-holds, moderate-of}
-use Rattle.slices.proofs.SliceTotals.{amplitude-more, amplitude-moderate}
+use Rattle.slices.proofs.EntryChecks.{range-holds, moderate-holds}
+use Rattle.slices.proofs.SliceTotals.{walked-amplitude}
 use borrow.Author.Needs.{needs}
 use Rattle.slices.proofs.total.amplitude.Statement.{statement}
 use Rattle.slices.proofs.total.amplitude.Tie as tie
@@ -22,25 +20,25 @@ in-range-requires : tie.Need-in-range-requires
 in-range-requires c κs = search needs
 
 returns : tie.Need-returns
-returns c gs C r b g v l h e k t =
-    let a : _ = c .before .before .args in
-    absurd (true≢false (sym (c .before .in-range .ensures ∙ range-of (a .m) (a .from) (a .count) h k) ∙ not-true _ (c .if1 .taken)))
+returns c gs C r b g t =
+    let s : _ = c .before .before in
+    let a : _ = s .args in
+    let n : inRange (a .m) (a .from) (a .count) ≡ false = sym (c .before .in-range .ensures) ∙ not-true _ (c .if1 .taken) in
+    rw n (toZ-ofZ (s .fits .total))
 
 is-moderate-requires : tie.Need-is-moderate-requires
 is-moderate-requires c κs = search needs
 
 returns-2 : tie.Need-returns-2
-returns-2 c gs C r b g v l h e k t =
+returns-2 c gs C r b g t =
     let s : _ = c .before .before .before .before in
     let a : _ = s .args in
-    let n : _ = amplitude-moderate (a .m) (polynomial gs) C (strings (a .m) r b g) (a .from) h (omega arith) in
-    let q : moderate (a .total) ≡ true = moderate-of (a .total) (omega (arith, ap natAbs t, n)) in
-    absurd (true≢false (sym (c .before .is-moderate .ensures ∙ ap moderate (toZ-ofZ (s .fits .total)) ∙ q) ∙ not-true _ (c .if2 .taken)))
+    let y : inRange (a .m) (a .from) (a .count) ≡ true = sym (c .before .before .before .in-range .ensures) ∙ not-false _ (c .before .before .if1 .left) in
+    let n : moderate (a .total) ≡ false = sym (c .before .is-moderate .ensures ∙ ap moderate (toZ-ofZ (s .fits .total))) ∙ not-true _ (c .if2 .taken) in
+    rw (y, n) (toZ-ofZ (s .fits .total))
 
 walk-requires : tie.Need-walk-requires
-walk-requires c κs =
-    let a : _ = c .before .before .before .before .before .args in
-    range-holds (a .m) (a .from) (a .count) (sym (c .before .before .before .before .in-range .ensures) ∙ not-false _ (c .before .before .before .if1 .left))
+walk-requires c κs = range-holds _ _ _ (sym (c .before .before .before .before .in-range .ensures) ∙ not-false _ (c .before .before .before .if1 .left))
 
 add-result : tie.Need-add-result
 add-result c =
@@ -49,18 +47,23 @@ add-result c =
     let w : _ = c .before .before .walk in
     let p : _ = range-holds (a .m) (a .from) (a .count) (sym (c .before .before .before .before .before .before .before .in-range .ensures) ∙ not-false _ (c .before .before .before .before .before .before .if1 .left)) in
     let n : natAbs (a .total) ≤ 2 ^ 60 = moderate-holds (a .total) (sym (c .before .before .before .before .before .is-moderate .ensures ∙ ap moderate (toZ-ofZ (s .fits .total))) ∙ not-false _ (c .before .before .before .before .if2 .left)) in
-    let i : natAbs (w .result .inner) ≤ 2 ^ 48 = omega (arith, pow-mono (p .0), w .ensures .inner-bound) in
-    rw (toZ-ofZ (s .fits .total), toZ-ofZ (abs-fits (w .result .inner) (omega arith)))
-    (abs-fits (a .total +ℤ w .result .inner) (omega (arith, add-abs (a .total) (w .result .inner))))
+    let i : natAbs (w .result .signed) ≤ 2 ^ 48 = omega (arith, pow-mono (p .0), w .ensures .signed-bound) in
+    rw (toZ-ofZ (s .fits .total), toZ-ofZ (abs-fits (w .result .signed) (omega arith)))
+    (abs-fits (a .total +ℤ w .result .signed) (omega (arith, add-abs (a .total) (w .result .signed))))
 
 returns-3 : tie.Need-returns-3
-returns-3 c gs C r b g v l h e k t =
+returns-3 c gs C r b g t =
     let s : _ = c .before .before .before .before .before .before .before .before in
     let a : _ = s .args in
     let w : _ = c .before .before .walk in
-    let i : natAbs (w .result .inner) < 2 ^ 63 = omega (arith, pow-mono h, w .ensures .inner-bound) in
-    toZ-ofZ (add-result c) ∙ ap₂ (λ x y. x +ℤ y) (toZ-ofZ (s .fits .total) ∙ t) (toZ-ofZ (abs-fits (w .result .inner) i))
-    ∙ amplitude-more (a .m) gs v C r b g h (a .t1) (a .from) (a .count) (w .result) e (w .ensures)
+    let y : inRange (a .m) (a .from) (a .count) ≡ true = sym (c .before .before .before .before .before .before .before .in-range .ensures) ∙ not-false _ (c .before .before .before .before .before .before .if1 .left) in
+    let n : moderate (a .total) ≡ true = sym (c .before .before .before .before .before .is-moderate .ensures ∙ ap moderate (toZ-ofZ (s .fits .total))) ∙ not-false _ (c .before .before .before .before .if2 .left) in
+    let p : _ = range-holds (a .m) (a .from) (a .count) y in
+    rw (y, n)
+    (toZ-ofZ (add-result c)
+    ∙ ap₂ (λ x z. x +ℤ z) (toZ-ofZ (s .fits .total))
+    (toZ-ofZ (abs-fits (w .result .signed) (omega (arith, pow-mono (p .0), w .ensures .signed-bound)))
+    ∙ walked-amplitude (a .m) gs C r b g (a .t1) t (p .0) (a .from) (a .count) (w .result) (w .ensures)))
 
 pub amplitude-spec : {M : Type 1} → statement M
 amplitude-spec =

@@ -47,7 +47,7 @@ next-rows-requires c κs = omega (arith, pow-mono (c .before .before .before .be
 with-two-requires : tie.Need-with-two-requires Inv-loop μ-loop
 with-two-requires c κs =
     let l : _ = c .before .before .before .loop in
-    omega (arith, pow-mono (c .before .before .before .before .before .before .pre .0), l .inv .2 .inner-bound, l .inv .2 .shares-bound)
+    omega (arith, pow-mono (c .before .before .before .before .before .before .pre .0), l .inv .2 .signed-bound, l .inv .2 .shares-bound)
 
 add-n : tie.Need-add-n Inv-loop μ-loop
 add-n c = omega (arith, pow-mono (c .before .before .before .before .before .before .before .pre .0))
@@ -76,7 +76,7 @@ loop-again c =
 with-one-requires : tie.Need-with-one-requires Inv-loop μ-loop
 with-one-requires c κs =
     let l : _ = c .before .before .loop in
-    omega (arith, pow-mono (c .before .before .before .before .before .pre .0), l .inv .2 .inner-bound, l .inv .2 .shares-bound)
+    omega (arith, pow-mono (c .before .before .before .before .before .pre .0), l .inv .2 .signed-bound, l .inv .2 .shares-bound)
 
 returns : tie.Need-returns Inv-loop μ-loop
 returns c =

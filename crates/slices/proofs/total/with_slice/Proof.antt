@@ -14,8 +14,8 @@ add-t4 : tie.Need-add-t4
 add-t4 c =
     let a : _ = c .before .before .before .before .args in
     let p : _ = c .before .before .before .before .pre in
-    rw (toZ-ofZ (abs-fits (a .sums .inner) (omega arith)), toZ-ofZ (abs-fits (a .slice .inner) (omega arith)))
-    (abs-fits (a .sums .inner +ℤ a .slice .inner) (omega (arith, add-abs (a .sums .inner) (a .slice .inner))))
+    rw (toZ-ofZ (abs-fits (a .sums .signed) (omega arith)), toZ-ofZ (abs-fits (a .slice .signed) (omega arith)))
+    (abs-fits (a .sums .signed +ℤ a .slice .signed) (omega (arith, add-abs (a .sums .signed) (a .slice .signed))))
 
 share-requires : tie.Need-share-requires
 share-requires c κs = (c .before .before .before .before .pre .0, c .before .before .before .before .pre .1)
@@ -31,8 +31,8 @@ unfolding plusSlice
 returns c =
     let a : _ = c .before .before .before .before .before .before .args in
     let p : _ = c .before .before .before .before .before .before .pre in
-    ap₂ (λ x (y : ℕ). record { inner = x; shares = y })
-    (toZ-ofZ (add-t4 (c .before .before)) ∙ ap₂ (λ x y. x +ℤ y) (toZ-ofZ (abs-fits (a .sums .inner) (omega arith))) (toZ-ofZ (abs-fits (a .slice .inner) (omega arith))))
+    ap₂ (λ x (y : ℕ). record { signed = x; shares = y })
+    (toZ-ofZ (add-t4 (c .before .before)) ∙ ap₂ (λ x y. x +ℤ y) (toZ-ofZ (abs-fits (a .sums .signed) (omega arith))) (toZ-ofZ (abs-fits (a .slice .signed) (omega arith))))
     (ap (λ (x : ℕ). a .sums .shares + x) (c .before .share .ensures))
 
 pub with-slice-spec : {M : Type 1} → statement M

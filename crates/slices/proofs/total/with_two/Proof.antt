@@ -36,7 +36,7 @@ with-slice-requires-2 c κs =
       p .0,
       d .0,
       d .1,
-      omega (arith, ap (λ (s : Sums). natAbs (s .inner)) (c .before .with-slice .ensures), plus-abs (a .m) (x .result) (a .sums)),
+      omega (arith, ap (λ (s : Sums). natAbs (s .signed)) (c .before .with-slice .ensures), plus-abs (a .m) (x .result) (a .sums)),
       omega (arith, ap (λ (s : Sums). s .shares) (c .before .with-slice .ensures), plus-shares (a .m) (x .result) (a .sums) (p .0)),
     )
 
