@@ -1,10 +1,12 @@
--- The free places are compared with the gates of the line, without a sum that could wrap.
+-- The free places are compared with the gates of the line, without a sum that could wrap; a number in range is held exactly.
 use Prim.Native.Nat.{_+_}
 use lib.ListN.{length}
 use mathlib.Core.Path.{sym, _∙_}
 use native.Mathlib.Omega.{arith}
 use borrow.Author.Tests.{lt-ltb, le-ltb}
-use Rattle.refusals.specs.Refusals.{orElse, refusedIf, lineGates, places, historyRefusal}
+use Rattle.lines.specs.Typed.{row}
+use Rattle.refusals.specs.Refusals.{orElse, refusedIf, places, historyRefusal}
+use Rattle.refusals.proofs.RowsHeld.{told-undo}
 use borrow.Author.Needs.{needs}
 use Rattle.refusals.proofs.places.in_history.Statement.{statement}
 use Rattle.refusals.proofs.places.in_history.Tie as tie
@@ -14,7 +16,9 @@ undoes-more-requires c κs = search needs
 
 returns : tie.Need-returns
 unfolding historyRefusal orElse refusedIf
-returns c = λ l h. rw (sym (c .before .undoes-more .ensures) ∙ c .if1 .taken)
+returns c =
+    let start = c .before .before in
+    λ l t told w. rw (told-undo l t (start .args .row) told w (start .args .held) ∙ sym (c .before .undoes-more .ensures) ∙ c .if1 .taken)
 
 places-of-requires : tie.Need-places-of-requires
 places-of-requires c κs = search needs
@@ -22,10 +26,10 @@ places-of-requires c κs = search needs
 returns-2 : tie.Need-returns-2
 unfolding historyRefusal orElse refusedIf
 returns-2 c =
-    let a = c .before .before .before .before .args in
-    λ l h. rw (
-      sym (c .before .before .before .undoes-more .ensures) ∙ c .before .before .if1 .left,
-      lt-ltb (places (a .room)) (a .held + length (lineGates (a .form) l)) (omega (arith, c .before .places-of .ensures)),
+    let start = c .before .before .before .before in
+    λ l t told w. rw (
+      told-undo l t (start .args .row) told w (start .args .held) ∙ sym (c .before .before .before .undoes-more .ensures) ∙ c .before .before .if1 .left,
+      lt-ltb (places (start .args .room)) (start .args .held + length (row t .gates)) (omega (arith, c .before .places-of .ensures)),
     )
 
 gate-count-requires : tie.Need-gate-count-requires
@@ -34,19 +38,19 @@ gate-count-requires c κs = search needs
 returns-3 : tie.Need-returns-3
 unfolding historyRefusal orElse refusedIf
 returns-3 c =
-    let a = c .before .before .before .before .before .before .args in
-    λ l h. rw (
-      sym (c .before .before .before .before .before .undoes-more .ensures) ∙ c .before .before .before .before .if1 .left,
-      lt-ltb (places (a .room)) (a .held + length (lineGates (a .form) l)) (omega (arith, c .before .before .before .places-of .ensures, c .before .gate-count .ensures l h)),
+    let start = c .before .before .before .before .before .before in
+    λ l t told w. rw (
+      told-undo l t (start .args .row) told w (start .args .held) ∙ sym (c .before .before .before .before .before .undoes-more .ensures) ∙ c .before .before .before .before .if1 .left,
+      lt-ltb (places (start .args .room)) (start .args .held + length (row t .gates)) (omega (arith, c .before .before .before .places-of .ensures, c .before .gate-count .ensures, told .count-is)),
     )
 
 returns-4 : tie.Need-returns-4
 unfolding historyRefusal orElse refusedIf
 returns-4 c =
-    let a = c .before .before .before .before .before .before .args in
-    λ l h. rw (
-      sym (c .before .before .before .before .before .undoes-more .ensures) ∙ c .before .before .before .before .if1 .left,
-      le-ltb (places (a .room)) (a .held + length (lineGates (a .form) l)) (omega (arith, c .before .before .before .places-of .ensures, c .before .gate-count .ensures l h)),
+    let start = c .before .before .before .before .before .before in
+    λ l t told w. rw (
+      told-undo l t (start .args .row) told w (start .args .held) ∙ sym (c .before .before .before .before .before .undoes-more .ensures) ∙ c .before .before .before .before .if1 .left,
+      le-ltb (places (start .args .room)) (start .args .held + length (row t .gates)) (omega (arith, c .before .before .before .places-of .ensures, c .before .gate-count .ensures, told .count-is)),
     )
 
 pub in-history-spec : {M : Type 1} → statement M

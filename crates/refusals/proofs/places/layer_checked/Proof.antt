@@ -1,33 +1,29 @@
--- The gates passed are checked; those to come are `gatesAt` of the place reached, as many as the form's count leaves.
-use Prim.Native.Nat.{_+_, _-_}
-use mathlib.Core.Path.{_≡_, ap, sym, _∙_}
+-- The gates met are checked; those to come are what following the places meets from the place reached, as many as are left of n.
+use Prim.Native.Nat.{_+_, _-_, _≤_}
+use mathlib.Core.Path.{_≡_, sym, _∙_}
 use mathlib.Core.Bool.{_&&_, _||_, and-true, and-assoc, or-false, or-assoc}
 use mathlib.Core.Logic.{⊎-elim}
+use native.Mathlib.Nat.{sub-zero}
 use native.Mathlib.Omega.{arith}
-use lib.ListN.{length}
-use lib.Seq.{take-all}
 use denote.Ref.{now}
-use Rattle.lines.specs.Gates.{layerGates, gatesAt}
+use Rattle.lines.specs.Gates.{gatesMet}
 use Rattle.refusals.specs.Refusals.{inRange, onItself, allInRange, anyOnItself}
-use Rattle.lines.proofs.LayerLine.{layer-count}
-use Rattle.lines.proofs.LayerWalk.{layer-begins, gate-next, gates-end}
+use Rattle.refusals.proofs.RefusalLaws.{met-next, met-end, met-all}
 use borrow.Author.Needs.{needs}
 use Rattle.refusals.proofs.places.layer_checked.Statement.{statement}
 use Rattle.refusals.proofs.places.layer_checked.Tie as tie
 
 abbrev Inv-loop : tie.InvT-loop
 Inv-loop m line n inside₀ itself₀ at₀ i₀ inside itself at i =
-    (i + length (gatesAt line at) ≡ n) ×
-    ((inside && allInRange m (gatesAt line at)) ≡ allInRange m (layerGates line)) ×
-    ((itself || anyOnItself (gatesAt line at)) ≡ anyOnItself (layerGates line))
+    (i ≤ n) ×
+    ((inside && allInRange m (gatesMet (n - i) line at)) ≡ allInRange m (gatesMet n line 6)) ×
+    ((itself || anyOnItself (gatesMet (n - i) line at)) ≡ anyOnItself (gatesMet n line 6))
 
 abbrev μ-loop : tie.MeasureT-loop
 μ-loop m line n inside₀ itself₀ at₀ i₀ inside itself at i = n - i
 
 loop-holds : tie.Need-loop-holds Inv-loop μ-loop
-loop-holds c =
-    let l = now (c .before .args .line) in
-    (omega (arith, ap length (layer-begins l), layer-count l _ (c .before .pre)), ap (allInRange _) (layer-begins l), ap anyOnItself (layer-begins l))
+loop-holds c = (omega arith, rw sub-zero, rw sub-zero)
 
 layer-gate-requires : tie.Need-layer-gate-requires Inv-loop μ-loop
 layer-gate-requires c κs = search needs
@@ -39,9 +35,13 @@ enum-told : tie.Need-enum-told Inv-loop μ-loop
 enum-told c = search needs
 
 returns : tie.Need-returns Inv-loop μ-loop
+unfolding allInRange anyOnItself
 returns c =
-    let none = gates-end _ _ (sym (c .before .before .layer-gate .ensures) ∙ c .enum-told .given .1) in
-    absurd (omega (arith, ap length none, c .before .before .before .before .loop .inv .0, c .before .before .before .loop-test .taken))
+    let loop = c .before .before .before .before .loop in
+    let none =
+    met-end (now (c .before .before .before .before .before .before .args .line)) (c .before .before .before .before .before .before .args .n) (loop .i) (loop .at) (c .before .before .before .loop-test .taken)
+    (sym (c .before .before .layer-gate .ensures) ∙ c .enum-told .given .1) in
+    (sym (and-true _) ∙ (rw none at (loop .inv .1)), sym (or-false _) ∙ (rw none at (loop .inv .2)))
 
 gate-checked-requires : tie.Need-gate-checked-requires Inv-loop μ-loop
 gate-checked-requires c κs = search needs
@@ -59,20 +59,20 @@ loop-again c =
     let loop = c .before .before .before .before .before .before .before .before .loop in
     let gate = c .before .before .before .before .gate .given in
     let read = sym (c .before .before .before .before .before .before .layer-gate .ensures) ∙ gate .1 in
-    let next = gate-next _ _ _ _ read in
+    let next = met-next (now (start .args .line)) (start .args .n) (loop .i) (loop .at) _ _ (c .before .before .before .before .before .before .before .loop-test .taken) read in
     let checked = c .before .before .gate-checked .ensures in
     let inside : c .before .if1 .inside ≡ (loop .inside && inRange (start .args .m) (gate .0 .0)) =
     ⊎-elim (λ w. rw (w .0 .taken) (w .1 ∙ checked .0)) (λ w. rw (w .0 .left) (w .1 ∙ w .0 .left)) (c .before .if1 .came) in
     let itself : c .if2 .itself ≡ (loop .itself || onItself (gate .0 .0)) =
     ⊎-elim (λ w. rw (w .0 .taken) (w .1 ∙ w .0 .taken)) (λ w. rw (w .0 .left) (w .1 ∙ checked .1)) (c .if2 .came) in
-    (omega (arith, ap length next), rw (inside, and-assoc) (rw next at (loop .inv .1)), rw (itself, or-assoc) (rw next at (loop .inv .2)))
+    (omega arith, rw (inside, and-assoc) (rw next at (loop .inv .1)), rw (itself, or-assoc) (rw next at (loop .inv .2)))
 
 returns-2 : tie.Need-returns-2 Inv-loop μ-loop
 unfolding allInRange anyOnItself
 returns-2 c =
-    let inv = c .before .loop .inv in
-    let none = sym (take-all 0 (gatesAt (now (c .before .before .before .args .line)) (c .before .loop .at)) (omega (arith, inv .0, c .loop-test .left))) in
-    (sym (and-true _) ∙ (rw none at (inv .1)), sym (or-false _) ∙ (rw none at (inv .2)))
+    let loop = c .before .loop in
+    let none = met-all (now (c .before .before .before .args .line)) (c .before .before .before .args .n) (loop .i) (loop .at) (c .loop-test .left) in
+    (sym (and-true _) ∙ (rw none at (loop .inv .1)), sym (or-false _) ∙ (rw none at (loop .inv .2)))
 
 pub layer-checked-spec : {M : Type 1} → statement M
 layer-checked-spec =

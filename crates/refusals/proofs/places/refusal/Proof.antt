@@ -1,62 +1,54 @@
--- The first place that finds a number gives it; a place is tried where those above it found none.
-use mathlib.Core.Path.{sym, _∙_}
-use Rattle.refusals.specs.Refusals.{orElse, refusalBy}
-use Rattle.refusals.proofs.RefusalLaws.{found-first}
+-- The row of a form tells of what was typed, and the row of a refusal is its number.
+use mathlib.Core.Path.{refl, ap, sym, _∙_}
+use denote.Ref.{now}
+use Rattle.lines.specs.Spelling.{readingOf}
+use Rattle.refusals.specs.HeldRows.{heldRow}
+use Rattle.refusals.specs.Refusals.{refusalBy}
+use Rattle.refusals.proofs.RowsHeld.{row-of-form, row-refused}
 use borrow.Author.Needs.{needs}
 use Rattle.refusals.proofs.places.refusal.Statement.{statement}
 use Rattle.refusals.proofs.places.refusal.Tie as tie
 
-of-form-requires : tie.Need-of-form-requires
-of-form-requires c κs = search needs
+row-of-requires : tie.Need-row-of-requires
+row-of-requires c κs = search needs
+
+enum-known-row : tie.Need-enum-known-row
+enum-known-row c = search needs
+
+positions-requires : tie.Need-positions-requires
+positions-requires c κs = search needs
+
+in-places-requires : tie.Need-in-places-requires
+in-places-requires c κs = search needs
+
+enum-known-row-2 : tie.Need-enum-known-row-2
+enum-known-row-2 c = search needs
 
 returns : tie.Need-returns
-unfolding refusalBy orElse
-returns c = rw (sym (c .before .of-form .ensures)) (found-first _ _ (c .if1 .taken))
-
-moment-requires : tie.Need-moment-requires
-moment-requires c κs = search needs
+unfolding refusalBy
+returns c =
+    let start = c .before .before .before .before .before .before .before in
+    let l = now (start .args .line) in
+    let given = c .before .before .before .row .given in
+    let found = row-of-form l (readingOf l) refl (given .0 .0) (ap heldRow (sym (start .pre)) ∙ sym (c .before .before .before .before .before .row-of .ensures) ∙ given .1) in
+    rw (found .1, sym (c .before .positions .ensures)) (c .in-places .ensures (found .0) (found .2))
 
 returns-2 : tie.Need-returns-2
-unfolding refusalBy orElse
+unfolding refusalBy
 returns-2 c =
-    rw (
-      sym (c .before .before .before .of-form .ensures) ∙ c .before .before .if1 .left,
-      sym (c .before .moment .ensures),
-    ) (found-first _ _ (c .if2 .taken))
-
-operands-requires : tie.Need-operands-requires
-operands-requires c κs = search needs
-
-returns-3 : tie.Need-returns-3
-unfolding refusalBy orElse
-returns-3 c =
-    rw (
-      sym (c .before .before .before .before .before .of-form .ensures) ∙ c .before .before .before .before .if1 .left,
-      sym (c .before .before .before .moment .ensures) ∙ c .before .before .if2 .left,
-      sym (c .before .operands .ensures),
-    ) (found-first _ _ (c .if3 .taken))
-
-in-history-requires : tie.Need-in-history-requires
-in-history-requires c κs = search needs
-
-returns-4 : tie.Need-returns-4
-unfolding refusalBy orElse
-returns-4 c =
-    rw (
-      sym (c .before .before .before .before .before .before .of-form .ensures) ∙ c .before .before .before .before .before .if1 .left,
-      sym (c .before .before .before .before .moment .ensures) ∙ c .before .before .before .if2 .left,
-      sym (c .before .before .operands .ensures) ∙ c .before .if3 .left,
-    ) (c .in-history .ensures _ (c .before .before .before .before .before .before .before .before .pre))
+    let start = c .before .before .before .before .before in
+    let l = now (start .args .line) in
+    let given = c .before .row2 .given in
+    rw (row-refused l (readingOf l) refl _ (ap heldRow (sym (start .pre)) ∙ sym (c .before .before .before .row-of .ensures) ∙ given .1))
 
 pub refusal-spec : {M : Type 1} → statement M
 refusal-spec =
     tie.close
     (tie.spec
-    of-form-requires
+    row-of-requires
+    enum-known-row
+    positions-requires
+    in-places-requires
+    enum-known-row-2
     returns
-    moment-requires
-    returns-2
-    operands-requires
-    returns-3
-    in-history-requires
-    returns-4)
+    returns-2)

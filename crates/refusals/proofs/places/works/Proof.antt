@@ -1,26 +1,22 @@
--- `step` and `drop` are told apart from the others one after the other.
-use Rattle.refusals.specs.Refusals.{works}
-use Rattle.refusals.proofs.RefusalLaws.{not-working}
+-- The numbers of the two classes that work, and those of the others, are each tested.
+use Prim.Native.Nat.{ℕ}
+use mathlib.Core.Bool.{true, false, _||_}
+use mathlib.Core.List.{[], _∷_}
+use mathlib.Core.Path.{refl}
+use lib.Dec.{eqb}
+use Rattle.refusals.specs.Refusals.{isClass, classNumber, works}
+use Rattle.refusals.proofs.RefusalLaws.{agreed, on-classes}
 use borrow.Author.Needs.{needs}
 use Rattle.refusals.proofs.places.works.Statement.{statement}
 use Rattle.refusals.proofs.places.works.Tie as tie
 
-enum-told : tie.Need-enum-told
-enum-told c = search needs
-
 returns : tie.Need-returns
-unfolding works
-returns c = rw (c .enum-told .given .1)
-
-enum-told-2 : tie.Need-enum-told-2
-enum-told-2 c = search needs
+unfolding works isClass classNumber agreed
+returns c = on-classes (λ (k : ℕ). eqb 5 k || eqb 6 k) true (5 ∷ 6 ∷ []) (c .before .args .class) refl (c .match .keys1)
 
 returns-2 : tie.Need-returns-2
-unfolding works
-returns-2 c = rw (c .enum-told2 .given .1)
-
-returns-3 : tie.Need-returns-3
-returns-3 c = not-working _ (c .before .match .keys2) (c .match2 .keys2)
+unfolding works isClass classNumber agreed
+returns-2 c = on-classes (λ (k : ℕ). eqb 5 k || eqb 6 k) false (0 ∷ 1 ∷ 2 ∷ 3 ∷ 4 ∷ 7 ∷ []) (c .before .args .class) refl (c .match .keys2)
 
 pub works-spec : {M : Type 1} → statement M
-works-spec = tie.close (tie.spec enum-told returns enum-told-2 returns-2 returns-3)
+works-spec = tie.close (tie.spec returns returns-2)
