@@ -1,6 +1,6 @@
 -- The held row of a line tells of the form that was typed all that the places ask: 65,537 is above every range that is asked for, so a
 -- capped number lies in a range exactly if the number does, and is the number if it does.
-use Prim.Native.Nat.{ℕ, _+_, _≤_, _<_}
+use Prim.Native.Nat.{ℕ, _+_, _≤_}
 use native.Mathlib.Omega.{arith}
 use mathlib.Core.Path.{_≡_, refl, ap, _∙_}
 use mathlib.Core.Bool.{Bool, true, false, not, _&&_, and-false, or-false}
@@ -43,7 +43,7 @@ leb-alike a b c d f g = go (leb a b) (leb c d) refl refl
     go false false p q = refl
 
 -- A capped number is in a range below 65,537 exactly if the number is.
-pub within-capped : (low high n : ℕ) → low ≤ 65537 → high < 65537 → within low high (capped n) ≡ within low high n
+pub within-capped : (low high n : ℕ) → low ≤ 65536 → high ≤ 65536 → within low high (capped n) ≡ within low high n
 unfolding within
 within-capped low high n a b =
     rw (
@@ -98,13 +98,13 @@ module _ (m : ℕ) (small : m ≤ 16) where
 -- ---- the held row of each form
 
 module _ (l : List ℕ) (t : Typed) where
-  number-told : (c : Class) (n low high : ℕ) → low ≤ 65537 → high ≤ 65536 → row t ≡ numbered c n low high
+  number-told : (c : Class) (n low high : ℕ) → low ≤ 65536 → high ≤ 65536 → row t ≡ numbered c n low high
       → Tells l t (record { class = c; number = capped n; least = low; most = high; strings = Strings.None; gates = Gates.None })
   unfolding wrongLength anyNotLong metGates countOf
   number-told c n low high a b e =
       record {
         class-is = rw e;
-        range-is = rw e (within-capped low high n a (omega arith));
+        range-is = rw e (within-capped low high n a b);
         number-is = λ w. rw e (number-inside low high n b (rw e at w));
         lengths-are = λ m. rw e;
         gates-are = rw e;
