@@ -1,9 +1,9 @@
 -- The held row of a line tells of the form that was typed all that the places ask: 65,537 is above every range that is asked for, so a
 -- capped number lies in a range exactly if the number does, and is the number if it does.
-use Prim.Native.Nat.{ℕ, _≤_, _<_}
+use Prim.Native.Nat.{ℕ, _+_, _≤_}
 use native.Mathlib.Omega.{arith}
-use mathlib.Core.Path.{_≡_, refl, ap, sym, _∙_}
-use mathlib.Core.Bool.{Bool, true, false, _&&_, _||_, or-false}
+use mathlib.Core.Path.{_≡_, refl, ap, _∙_}
+use mathlib.Core.Bool.{Bool, true, false, not, _&&_, and-false, or-false}
 use mathlib.Core.List.{List, [], _∷_, map}
 use lib.Dec.{leb, ltb}
 use lib.ListN.{length}
@@ -29,7 +29,7 @@ use Rattle.refusals.specs.declared.rows.Gates.the-variants as Gates
 use Rattle.refusals.specs.declared.rows.HeldRow.{HeldRow}
 use Rattle.refusals.specs.declared.rows.FormRow.the-variants as FormRow
 use Rattle.refusals.specs.HeldRows.{heldRow, notLong, wrongLength, metGates, countOf, Tells}
-use Rattle.refusals.specs.Refusals.{isClass, within, inRange, allInRange, anyOnItself, anyNotLong, undoesMore}
+use Rattle.refusals.specs.Refusals.{orElse, refusedIf, isClass, within, inRange, allInRange, outOfRange, anyOnItself, anyNotLong, operandRefusal, places, undoesMore, historyRefusal}
 
 -- ---- capped numbers
 
@@ -43,7 +43,7 @@ leb-alike a b c d f g = go (leb a b) (leb c d) refl refl
     go false false p q = refl
 
 -- A capped number is in a range below 65,537 exactly if the number is.
-pub within-capped : (low high n : ℕ) → low ≤ 65537 → high < 65537 → within low high (capped n) ≡ within low high n
+pub within-capped : (low high n : ℕ) → low ≤ 65536 → high ≤ 65536 → within low high (capped n) ≡ within low high n
 unfolding within
 within-capped low high n a b =
     rw (
@@ -98,13 +98,13 @@ module _ (m : ℕ) (small : m ≤ 16) where
 -- ---- the held row of each form
 
 module _ (l : List ℕ) (t : Typed) where
-  number-told : (c : Class) (n low high : ℕ) → low ≤ 65537 → high ≤ 65536 → row t ≡ numbered c n low high
+  number-told : (c : Class) (n low high : ℕ) → low ≤ 65536 → high ≤ 65536 → row t ≡ numbered c n low high
       → Tells l t (record { class = c; number = capped n; least = low; most = high; strings = Strings.None; gates = Gates.None })
   unfolding wrongLength anyNotLong metGates countOf
   number-told c n low high a b e =
       record {
         class-is = rw e;
-        range-is = rw e (within-capped low high n a (omega arith));
+        range-is = rw e (within-capped low high n a b);
         number-is = λ w. rw e (number-inside low high n b (rw e at w));
         lengths-are = λ m. rw e;
         gates-are = rw e;
@@ -149,9 +149,9 @@ two-alike m x y = rw or-false
 pub row-told : (l : List ℕ) (t : Typed) → readingOf l ≡ form t → (r : HeldRow) × (heldRow (held t) ≡ FormRow.Row r) × Tells l t r
 unfolding heldRow held gateForm heldGate heldReading row stringsOf metGates countOf wrongLength anyNotLong
 row-told l (circuit m) h = (_, refl, number-told l (circuit m) Class.Creates m 1 16 (omega arith) (omega arith) refl)
-row-told l (gate (Ccz i j k)) h = (_, refl, gates-told l (gate (Ccz i j k)) (Gates.One (heldGate (Ccz i j k))) (Ccz i j k ∷ []) refl refl refl)
-row-told l (gate (Cz p q)) h = (_, refl, gates-told l (gate (Cz p q)) (Gates.One (heldGate (Cz p q))) (Cz p q ∷ []) refl refl refl)
-row-told l (gate (Cnot C c t)) h = (_, refl, gates-told l (gate (Cnot C c t)) (Gates.One (heldGate (Cnot C c t))) (Cnot C c t ∷ []) refl refl refl)
+row-told l (gate (Ccz i j k)) h = (_, refl, gates-told l (gate (Ccz i j k)) _ _ refl refl refl)
+row-told l (gate (Cz p q)) h = (_, refl, gates-told l (gate (Cz p q)) _ _ refl refl refl)
+row-told l (gate (Cnot C c t)) h = (_, refl, gates-told l (gate (Cnot C c t)) _ _ refl refl refl)
 row-told l (layer gs) h =
     (_, refl, gates-told l (layer gs) (Gates.Layer (length gs)) gs refl (layer-walked l (length gs) (ap heldReading h) ∙ handed-on l gs h) refl)
 row-told l (undo k) h = (_, refl, number-told l (undo k) Class.TakesBack k 1 4096 (omega arith) (omega arith) refl)
@@ -180,16 +180,25 @@ unfolding heldReading heldRow
 row-refused l (form t) h e p = let told = row-told l t h in never (cc)
 row-refused l (refused n) h e p = let same : n ≡ e = cc in ap refused same
 
-module _ (m : ℕ) (small : m ≤ 16) (l : List ℕ) (t : Typed) (r : HeldRow) (told : Tells l t r) where
-  -- The gates that the code meets are in range exactly if those that were typed are, and then they are the same.
-  pub told-inside : allInRange m (metGates (r .gates) l) ≡ allInRange m (row t .gates)
-  told-inside = ap (allInRange m) (told .gates-are) ∙ held-in-range m small (row t .gates)
+module _ (l : List ℕ) (t : Typed) (r : HeldRow) (told : Tells l t r) where
+  -- The place Operands by the held row: the gates that the code meets are in range exactly if those that were typed are, and then they are the same.
+  pub operands-told : (m : ℕ) → m ≤ 16 → operandRefusal m (row t) ≡
+      orElse (refusedIf (not (within (r .least) (r .most) (r .number) && allInRange m (metGates (r .gates) l))) 9)
+      (orElse (refusedIf (anyOnItself (metGates (r .gates) l)) 10) (refusedIf (wrongLength m (r .strings)) 11))
+  unfolding operandRefusal outOfRange orElse refusedIf
+  operands-told m small = rw (told .range-is, inside, told .lengths-are m) (go (allInRange m (row t .gates)) refl)
+    where
+      inside : allInRange m (metGates (r .gates) l) ≡ allInRange m (row t .gates)
+      inside = ap (allInRange m) (told .gates-are) ∙ held-in-range m small (row t .gates)
 
-  pub told-itself : allInRange m (row t .gates) ≡ true → anyOnItself (metGates (r .gates) l) ≡ anyOnItself (row t .gates)
-  told-itself w = ap anyOnItself (told .gates-are ∙ held-inside m small (row t .gates) w)
+      go : (i : Bool) → allInRange m (row t .gates) ≡ i → operandRefusal m (row t) ≡
+          orElse (refusedIf (not (within (row t .least) (row t .most) (row t .number) && allInRange m (row t .gates))) 9)
+          (orElse (refusedIf (anyOnItself (metGates (r .gates) l)) 10) (refusedIf (anyNotLong m (row t .strings)) 11))
+      go true i = rw (told .gates-are, held-inside m small (row t .gates) i)
+      go false i = rw (i, and-false)
 
--- The number of a form that is in its range is the held one.
-pub told-undo : (l : List ℕ) (t : Typed) (r : HeldRow) → Tells l t r → within (row t .least) (row t .most) (row t .number) ≡ true → (count : ℕ)
-    → undoesMore count (row t) ≡ (isClass Class.TakesBack (r .class) && ltb count (r .number))
-unfolding undoesMore
-told-undo l t r told w count = rw (told .class-is, told .number-is w)
+  -- The place History by the held row: a number in its range is the held one.
+  pub history-told : (room count : ℕ) → within (row t .least) (row t .most) (row t .number) ≡ true → historyRefusal room count (row t) ≡
+      orElse (refusedIf (isClass Class.TakesBack (r .class) && ltb count (r .number)) 12) (refusedIf (ltb (places room) (count + countOf (r .gates))) 13)
+  unfolding historyRefusal undoesMore
+  history-told room count w = rw (told .class-is, told .number-is w, told .count-is)

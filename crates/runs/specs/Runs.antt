@@ -3,7 +3,6 @@ use mathlib.Core.Bool.{Bool, true, false, not, cond, _&&_, _||_}
 use mathlib.Core.List.{List, [], _∷_, _++_}
 use mathlib.Core.Path.{_≡_}
 use Prim.Native.Nat.{ℕ, _+_, _-_, _*_, _^_, _≤_, _<_}
-use lib.Dec.{eqb}
 use lib.IntN.{ℤ, pos, _*ℤ_}
 use lib.ListN.{length, getD, take}
 use Rattle.gf2.specs.Strings.{BitString}
@@ -159,13 +158,13 @@ noted b (amp C r x g ∷ qs) a p = p
 noted b (part C x y ∷ qs) a p = cond (isLeft a) (last (record { colour = C; x = x; y = y; book = b })) p
 
 -- The same for `(amp C R B G)`: the output string, and the book as it stood.
-pub record Asked : Type 0 where
+pub record Amp : Type 0 where
   pub output : Basis
   pub book : Book
 
 pub data LastAmp : Type 0 where
   noAmp : LastAmp
-  lastAmp : Asked → LastAmp
+  lastAmp : Amp → LastAmp
 
 unfoldable pub notedAmp : Book → List Asked → List ℕ → LastAmp → LastAmp
 notedAmp b [] a p = p
@@ -202,7 +201,8 @@ logOf cs = logFrom emptyLog cs
 
 -- A line is accepted that has an answer, and no refusal for one.
 unfoldable pub isAccepted : List ℕ → Bool
-isAccepted a = not (eqb (length a) 0) && not (begins (bytes "(no ") a)
+isAccepted [] = false
+isAccepted (x ∷ a) = not (begins (bytes "(no ") (x ∷ a))
 
 -- The k of a line that is an accepted step; any other line adds nothing.
 unfoldable pub stepsOf : Reading → List ℕ → ℕ
@@ -266,7 +266,7 @@ pub record IsReadout (answer : List ℕ) : Type 0 where
 -- The amplitude of the last accepted `amp`: the sum carried gate by gate over the gates that the book then held, at the output string with the
 -- starting ones added, whichever colour was sliced.
 pub record Amplitude (calls : List Call) (s : ℤ) (n : ℕ) : Type 0 where
-  pub asked : Asked
+  pub asked : Amp
   pub latest : logOf calls .amp ≡ lastAmp asked
   pub entered : Entered
   pub book : asked .book ≡ holds entered

@@ -1,4 +1,4 @@
--- The class `circuit` has is named, and each other is told apart by its number.
+-- `circuit` is named by its class, and every other class is told apart by its number.
 use mathlib.Core.Bool.{false}
 use mathlib.Core.List.{[], _∷_}
 use mathlib.Core.Path.{refl}

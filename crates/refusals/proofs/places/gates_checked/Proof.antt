@@ -1,4 +1,4 @@
--- One gate is checked alone, those of a layer where they stand, and none is in range and on no other.
+-- One gate is checked alone, those of a layer where they stand; of no gates all are in range and none is on itself.
 use mathlib.Core.Path.{refl, _∙_}
 use Rattle.refusals.specs.HeldRows.{metGates}
 use Rattle.refusals.specs.Refusals.{allInRange, anyOnItself}

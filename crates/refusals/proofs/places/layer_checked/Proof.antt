@@ -1,5 +1,5 @@
 -- The gates met are checked; those to come are what following the places meets from the place reached, as many as are left of n.
-use Prim.Native.Nat.{_+_, _-_, _≤_}
+use Prim.Native.Nat.{_-_, _≤_}
 use mathlib.Core.Path.{_≡_, sym, _∙_}
 use mathlib.Core.Bool.{_&&_, _||_, and-true, and-assoc, or-false, or-assoc}
 use mathlib.Core.Logic.{⊎-elim}
@@ -38,9 +38,9 @@ returns : tie.Need-returns Inv-loop μ-loop
 unfolding allInRange anyOnItself
 returns c =
     let loop = c .before .before .before .before .loop in
-    let none =
-    met-end (now (c .before .before .before .before .before .before .args .line)) (c .before .before .before .before .before .before .args .n) (loop .i) (loop .at) (c .before .before .before .loop-test .taken)
-    (sym (c .before .before .layer-gate .ensures) ∙ c .enum-told .given .1) in
+    let a = c .before .before .before .before .before .before .args in
+    let read = sym (c .before .before .layer-gate .ensures) ∙ c .enum-told .given .1 in
+    let none = met-end (now (a .line)) (a .n) (loop .i) (loop .at) (c .before .before .before .loop-test .taken) read in
     (sym (and-true _) ∙ (rw none at (loop .inv .1)), sym (or-false _) ∙ (rw none at (loop .inv .2)))
 
 gate-checked-requires : tie.Need-gate-checked-requires Inv-loop μ-loop
@@ -55,13 +55,13 @@ loop-less c = search needs
 loop-again : tie.Need-loop-again Inv-loop μ-loop
 unfolding allInRange anyOnItself
 loop-again c =
-    let start = c .before .before .before .before .before .before .before .before .before .before in
+    let a = c .before .before .before .before .before .before .before .before .before .before .args in
     let loop = c .before .before .before .before .before .before .before .before .loop in
     let gate = c .before .before .before .before .gate .given in
     let read = sym (c .before .before .before .before .before .before .layer-gate .ensures) ∙ gate .1 in
-    let next = met-next (now (start .args .line)) (start .args .n) (loop .i) (loop .at) _ _ (c .before .before .before .before .before .before .before .loop-test .taken) read in
+    let next = met-next (now (a .line)) (a .n) (loop .i) (loop .at) _ _ (c .before .before .before .before .before .before .before .loop-test .taken) read in
     let checked = c .before .before .gate-checked .ensures in
-    let inside : c .before .if1 .inside ≡ (loop .inside && inRange (start .args .m) (gate .0 .0)) =
+    let inside : c .before .if1 .inside ≡ (loop .inside && inRange (a .m) (gate .0 .0)) =
     ⊎-elim (λ w. rw (w .0 .taken) (w .1 ∙ checked .0)) (λ w. rw (w .0 .left) (w .1 ∙ w .0 .left)) (c .before .if1 .came) in
     let itself : c .if2 .itself ≡ (loop .itself || onItself (gate .0 .0)) =
     ⊎-elim (λ w. rw (w .0 .taken) (w .1 ∙ w .0 .taken)) (λ w. rw (w .0 .left) (w .1 ∙ checked .1)) (c .if2 .came) in
@@ -71,7 +71,8 @@ returns-2 : tie.Need-returns-2 Inv-loop μ-loop
 unfolding allInRange anyOnItself
 returns-2 c =
     let loop = c .before .loop in
-    let none = met-all (now (c .before .before .before .args .line)) (c .before .before .before .args .n) (loop .i) (loop .at) (c .loop-test .left) in
+    let a = c .before .before .before .args in
+    let none = met-all (now (a .line)) (a .n) (loop .i) (loop .at) (c .loop-test .left) in
     (sym (and-true _) ∙ (rw none at (loop .inv .1)), sym (or-false _) ∙ (rw none at (loop .inv .2)))
 
 pub layer-checked-spec : {M : Type 1} → statement M

@@ -1,7 +1,6 @@
 -- The test is that of `notLong`.
 use mathlib.Core.Path.{refl}
 use Rattle.refusals.specs.HeldRows.{notLong}
-use borrow.Author.Needs.{needs}
 use Rattle.refusals.proofs.places.not_long.Statement.{statement}
 use Rattle.refusals.proofs.places.not_long.Tie as tie
 

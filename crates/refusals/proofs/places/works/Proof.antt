@@ -1,4 +1,4 @@
--- The numbers of the two classes that work, and those of the others, are each tested.
+-- The classes of `step` and `drop` are told apart from the others by their numbers.
 use Prim.Native.Nat.{ℕ}
 use mathlib.Core.Bool.{true, false, _||_}
 use mathlib.Core.List.{[], _∷_}
@@ -6,7 +6,6 @@ use mathlib.Core.Path.{refl}
 use lib.Dec.{eqb}
 use Rattle.refusals.specs.Refusals.{isClass, classNumber, works}
 use Rattle.refusals.proofs.RefusalLaws.{agreed, on-classes}
-use borrow.Author.Needs.{needs}
 use Rattle.refusals.proofs.places.works.Statement.{statement}
 use Rattle.refusals.proofs.places.works.Tie as tie
 

@@ -39,7 +39,9 @@ returns-2 c = rw (c .before .before .before .strings .given .1, sym (c .before .
 
 returns-3 : tie.Need-returns-3
 unfolding wrongLength
-returns-3 c = rw (c .before .before .before .before .strings .given .1, sym (c .before .before .not-long .ensures) ∙ c .before .if1 .left) (c .not-long2 .ensures)
+returns-3 c =
+    let first = sym (c .before .before .not-long .ensures) ∙ c .before .if1 .left in
+    rw (c .before .before .before .before .strings .given .1, first) (c .not-long2 .ensures)
 
 returns-4 : tie.Need-returns-4
 unfolding wrongLength
@@ -48,14 +50,16 @@ returns-4 c = rw (c .before .before .before .strings2 .given .1, sym (c .before 
 returns-5 : tie.Need-returns-5
 unfolding wrongLength
 returns-5 c =
-    rw (c .before .before .before .before .before .strings2 .given .1, sym (c .before .before .before .not-long3 .ensures) ∙ c .before .before .if2 .left, sym (c .before .not-long4 .ensures) ∙ c .if3 .taken)
-    (c .if3 .taken)
+    let first = sym (c .before .before .before .not-long3 .ensures) ∙ c .before .before .if2 .left in
+    let second = sym (c .before .not-long4 .ensures) ∙ c .if3 .taken in
+    rw (c .before .before .before .before .before .strings2 .given .1, first, second) (c .if3 .taken)
 
 returns-6 : tie.Need-returns-6
 unfolding wrongLength
 returns-6 c =
-    rw (c .before .before .before .before .before .before .strings2 .given .1, sym (c .before .before .before .before .not-long3 .ensures) ∙ c .before .before .before .if2 .left, sym (c .before .before .not-long4 .ensures) ∙ c .before .if3 .left)
-    (c .not-long5 .ensures)
+    let first = sym (c .before .before .before .before .not-long3 .ensures) ∙ c .before .before .before .if2 .left in
+    let second = sym (c .before .before .not-long4 .ensures) ∙ c .before .if3 .left in
+    rw (c .before .before .before .before .before .before .strings2 .given .1, first, second) (c .not-long5 .ensures)
 
 pub wrong-length-spec : {M : Type 1} → statement M
 wrong-length-spec =
