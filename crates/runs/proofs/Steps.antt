@@ -182,14 +182,14 @@ pub steps-end :
     dropsIn between ≡ false → stepsIn between < 2 ^ b .m → readingOf (c .line) ≡ typed (step k) → isAccepted (answerOf c) ≡ true →
     2 ^ b .m ≤ stepsIn between + k → IsReadout (answerOf c)
 unfolding next
-steps-end g p between c after C x y b k m form left book none few step stepped all =
+steps-end g p between c after C x y b k m asked left book none few read taken all =
     let rest = between ++ (line c ∷ after) in
     let d = done g p rest m in
     let opened : Underway (b .m) 0 rest =
     record {
       log = logged g (line p);
       moment = next g (line p) rest m;
-      sum = outcome-begins C x y b (d .outcome) form left (sym (m .follows .book) ∙ book);
+      sum = outcome-begins C x y b (d .outcome) asked left (sym (m .follows .book) ∙ book);
     } in
     let u = calls-work between (line c ∷ after) opened none (rw (zero-add (stepsIn between)) few) in
-    outcome-ends k (done (u .log) c after (u .moment) .outcome) (u .sum) step stepped (rw (zero-add (stepsIn between)) all)
+    outcome-ends k (done (u .log) c after (u .moment) .outcome) (u .sum) read taken (rw (zero-add (stepsIn between)) all)
