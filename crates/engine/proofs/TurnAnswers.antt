@@ -16,8 +16,8 @@ use Rattle.circuit.specs.Polynomial.{Term, Polynomial, polynomial}
 use Rattle.circuit.specs.Listing.{overPositions, triples, pairsBeside, everyTerm, among, listing}
 use Rattle.slices.specs.Totals.{amplitudeAfter}
 use Rattle.slices.proofs.Bounds.{amplitudeAfter-bound, readoutCount-bound}
-use Rattle.lines.specs.Typed.{amp, part, Typed, circuit, gate, layer, undo, start, sum, step, drop, terms}
-use Rattle.lines.specs.Spelling.{Reading, form as typed, refused, readingOf}
+use Rattle.lines.specs.Typed.{amp, part, Typed, circuit, gate, layer, undo, start, opens, step, drop, terms}
+use Rattle.lines.specs.Spelling.{Reading, typed, refused, readingOf}
 use Rattle.lines.proofs.Readings.{refused-among}
 use Rattle.answers.specs.Answers.{bytesOf}
 use Rattle.answers.proofs.Lengths.{Modest, answer-fits}
@@ -126,8 +126,8 @@ accepted-modest c o (gate g) h = tt
 accepted-modest c o (layer gs) h = tt
 accepted-modest c o (undo k) h = tt
 accepted-modest c o (start r b g) h = tt
-accepted-modest c o (sum (amp C r b g)) h = left-modest (c .m) (2 ^ c .m) h (le-refl _)
-accepted-modest c o (sum (part C x y)) h = left-modest (c .m) (2 ^ c .m) h (le-refl _)
+accepted-modest c o (opens (amp C r b g)) h = left-modest (c .m) (2 ^ c .m) h (le-refl _)
+accepted-modest c o (opens (part C x y)) h = left-modest (c .m) (2 ^ c .m) h (le-refl _)
 accepted-modest c o (step k) h = step-modest c o k h
 accepted-modest c o drop h = tt
 accepted-modest c o terms h = omega (arith, listing-most (polynomial (c .gates)))

@@ -8,8 +8,8 @@ use native.Mathlib.Omega.{arith}
 use lib.Dec.{eqb, ltb}
 use lib.ListN.{length}
 use borrow.Author.Tests.{ne-eqb}
-use Rattle.lines.specs.Typed.{amp, part, Typed, circuit, gate, layer, undo, start, sum, step, drop, terms}
-use Rattle.lines.specs.Spelling.{Reading, form as typed, refused, readingOf, gatesIn}
+use Rattle.lines.specs.Typed.{amp, part, Typed, circuit, gate, layer, undo, start, opens, step, drop, terms}
+use Rattle.lines.specs.Spelling.{Reading, typed, refused, readingOf, gatesIn}
 use Rattle.lines.proofs.Readings.{refused-among}
 use Rattle.answers.specs.declared.Answer.{Answer}
 use Rattle.answers.specs.declared.Answer.the-variants as Answer
@@ -78,8 +78,8 @@ accepted-number c o (gate g) = refl
 accepted-number c o (layer gs) = refl
 accepted-number c o (undo k) = refl
 accepted-number c o (start r b g) = refl
-accepted-number c o (sum (amp C r b g)) = refl
-accepted-number c o (sum (part C x y)) = refl
+accepted-number c o (opens (amp C r b g)) = refl
+accepted-number c o (opens (part C x y)) = refl
 accepted-number c o (step k) = step-number c o k
 accepted-number c o drop = refl
 accepted-number c o terms = refl

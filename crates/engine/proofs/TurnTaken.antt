@@ -21,8 +21,8 @@ use Rattle.text.proofs.BitNumbers.{held-exactly}
 use Rattle.lines.specs.declared.Class.the-variants as Class
 use Rattle.lines.specs.declared.Form.{Form}
 use Rattle.lines.specs.declared.Form.the-variants as Form
-use Rattle.lines.specs.Typed.{amp, part, Typed, circuit, gate, layer, undo, start, sum, step, drop, terms, stringsOf, row}
-use Rattle.lines.specs.Spelling.{form as typed, anyColourTwice, readingOf}
+use Rattle.lines.specs.Typed.{amp, part, Typed, circuit, gate, layer, undo, start, opens, step, drop, terms, stringsOf, row}
+use Rattle.lines.specs.Spelling.{typed, anyColourTwice, readingOf}
 use Rattle.lines.specs.Held.{heldGate, held, heldReading}
 use Rattle.lines.specs.Gates.{layerGates}
 use Rattle.lines.proofs.Readings.{form-read}
@@ -142,8 +142,8 @@ module _ (e : Engine) (s s' : State) (h : List ℕ) (a : Answer) where
       Does (λ c o. opening c amplitude C (record { red = r .value; blue = b .value; green = g .value })) s s' a → Taken e h t s' a h
   unfolding accepted asNumbers encode circuitOf row stringsOf isClass classNumber
   amplitude-taken (amps {C} {r} {b} {g}) f d =
-      form-taken (sum (amp C r b g)) refl refl f (λ c o l k sound.
-      let n = three-long (c .m) r b g (passing (With (present c o) l) s h (sum (amp C r b g)) k .lengths) in
+      form-taken (opens (amp C r b g)) refl refl f (λ c o l k sound.
+      let n = three-long (c .m) r b g (passing (With (present c o) l) s h (opens (amp C r b g)) k .lengths) in
       let most = sound .most in
       rw (held-exactly r (omega (arith, n .0)), held-exactly b (omega (arith, n .1)), held-exactly g (omega (arith, n .2))) at (d c o l sound (k .holds .state)))
 
@@ -152,8 +152,8 @@ module _ (e : Engine) (s s' : State) (h : List ℕ) (a : Answer) where
       Does (λ c o. opening c readout C (besideUnread C (x .value) (y .value))) s s' a → Taken e h t s' a h
   unfolding accepted encode circuitOf row stringsOf isClass classNumber
   readout-taken (parts {C} {x} {y}) f d =
-      form-taken (sum (part C x y)) refl refl f (λ c o l k sound.
-      let n = two-long (c .m) x y (passing (With (present c o) l) s h (sum (part C x y)) k .lengths) in
+      form-taken (opens (part C x y)) refl refl f (λ c o l k sound.
+      let n = two-long (c .m) x y (passing (With (present c o) l) s h (opens (part C x y)) k .lengths) in
       let most = sound .most in
       rw (held-exactly x (omega (arith, n .0)), held-exactly y (omega (arith, n .1))) at (d c o l sound (k .holds .state)))
 

@@ -14,8 +14,8 @@ use Rattle.circuit.specs.declared.Gate.{Gate}
 use Rattle.circuit.specs.Sum.{areGates}
 use Rattle.text.specs.Spelling.{numberOfBits}
 use Rattle.lines.specs.declared.Class.the-variants as Class
-use Rattle.lines.specs.Typed.{amp, part, Typed, circuit, gate, layer, undo, start, sum, step, drop, terms, stringsOf, row}
-use Rattle.lines.specs.Spelling.{Reading, form as typed, refused, readingOf}
+use Rattle.lines.specs.Typed.{amp, part, Typed, circuit, gate, layer, undo, start, opens, step, drop, terms, stringsOf, row}
+use Rattle.lines.specs.Spelling.{Reading, typed, refused, readingOf}
 use Rattle.lines.proofs.Readings.{form-read, refused-among}
 use Rattle.answers.specs.declared.Answer.{Answer}
 use Rattle.answers.specs.declared.Answer.the-variants as Answer
@@ -49,14 +49,14 @@ pub data View (room : ℕ) : Loaded → Reading → Loaded → Answer → Type 0
       View room (present c closed) (typed (start r b g)) (present (record { m = c .m; gates = c .gates; start = asNumbers r b g }) closed) Answer.Ok
   opensAmplitude :
       {c : Circuit} {C : Colour} {r b g : BitString} → length r ≡ c .m → length b ≡ c .m → length g ≡ c .m →
-      View room (present c closed) (typed (sum (amp C r b g)))
+      View room (present c closed) (typed (opens (amp C r b g)))
       (present c
       (running
       (record { purpose = amplitude; colour = C; output = outputWith (c .start) (asNumbers r b g); gates = c .gates; worked = 0 })))
       (Answer.Left (2 ^ c .m))
   opensReadout :
       {c : Circuit} {C : Colour} {x y : BitString} → length x ≡ c .m → length y ≡ c .m →
-      View room (present c closed) (typed (sum (part C x y)))
+      View room (present c closed) (typed (opens (part C x y)))
       (present c
       (running
       (record {
@@ -143,7 +143,7 @@ module _ (room : ℕ) where
     first (layer gs) p = absurd (true≢false (p .loading))
     first (undo k) p = absurd (true≢false (p .loading))
     first (start r b g) p = absurd (true≢false (p .loading))
-    first (sum q) p = absurd (true≢false (p .loading))
+    first (opens q) p = absurd (true≢false (p .loading))
     first (step k) p = absurd (true≢false (p .loading))
     first drop p = absurd (true≢false (p .loading))
     first terms p = absurd (true≢false (p .loading))
@@ -156,8 +156,8 @@ module _ (room : ℕ) where
     idle c (layer gs) is p = adds many (gates-by-tests (c .m) gs (p .inside) (p .targets) (form-read l (layer gs) is .colours)) (p .fits)
     idle c (undo k) is p = takesBack
     idle c (start r b g) is p = let h = three-long (c .m) r b g (p .lengths) in starts (h .0) (h .1) (h .2)
-    idle c (sum (amp C r b g)) is p = let h = three-long (c .m) r b g (p .lengths) in opensAmplitude (h .0) (h .1) (h .2)
-    idle c (sum (part C x y)) is p = let h = two-long (c .m) x y (p .lengths) in opensReadout (h .0) (h .1)
+    idle c (opens (amp C r b g)) is p = let h = three-long (c .m) r b g (p .lengths) in opensAmplitude (h .0) (h .1) (h .2)
+    idle c (opens (part C x y)) is p = let h = two-long (c .m) x y (p .lengths) in opensReadout (h .0) (h .1)
     idle c (step k) is p = absurd (true≢false (p .working))
     idle c drop is p = absurd (true≢false (p .working))
     idle c terms is p = lists
@@ -170,7 +170,7 @@ module _ (room : ℕ) where
     summing c o (layer gs) p = absurd (true≢false (p .waiting))
     summing c o (undo k) p = absurd (true≢false (p .waiting))
     summing c o (start r b g) p = absurd (true≢false (p .waiting))
-    summing c o (sum q) p = absurd (true≢false (p .waiting))
+    summing c o (opens q) p = absurd (true≢false (p .waiting))
     summing c o (step k) p = worked c o k
     summing c o drop p = drops
     summing c o terms p = absurd (true≢false (p .waiting))

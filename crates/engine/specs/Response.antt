@@ -14,8 +14,8 @@ use Rattle.circuit.specs.Listing.{listing}
 use Rattle.slices.specs.Packing.{strings}
 use Rattle.slices.specs.Totals.{amplitudeAfter, readoutCount}
 use Rattle.text.specs.Spelling.{numberOfBits}
-use Rattle.lines.specs.Typed.{amp, part, Typed, circuit, gate, layer, undo, start, sum, step, drop, terms}
-use Rattle.lines.specs.Spelling.{Reading, form as typed, refused}
+use Rattle.lines.specs.Typed.{amp, part, Typed, circuit, gate, layer, undo, start, opens, step, drop, terms}
+use Rattle.lines.specs.Spelling.{Reading, typed, refused}
 use Rattle.refusals.specs.Refusals.{refusalBy}
 use Rattle.answers.specs.declared.Answer.{Answer}
 use Rattle.answers.specs.declared.Answer.the-variants as Answer
@@ -114,8 +114,8 @@ accepted c o (gate g) = withGates c o (g ∷ [])
 accepted c o (layer gs) = withGates c o gs
 accepted c o (undo k) = withoutLast c o k
 accepted c o (start r b g) = withNewStart c o (asNumbers r b g)
-accepted c o (sum (amp C r b g)) = opening c amplitude C (asNumbers r b g)
-accepted c o (sum (part C x y)) = opening c readout C (besideUnread C (numberOfBits x) (numberOfBits y))
+accepted c o (opens (amp C r b g)) = opening c amplitude C (asNumbers r b g)
+accepted c o (opens (part C x y)) = opening c readout C (besideUnread C (numberOfBits x) (numberOfBits y))
 accepted c o (step k) = stepOf c o k
 accepted c o drop = withoutSum c
 accepted c o terms = termsOf c o

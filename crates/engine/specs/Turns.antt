@@ -8,7 +8,7 @@ use lib.ListN.{length}
 use Rattle.circuit.specs.declared.Gate.{Gate}
 use Rattle.circuit.specs.Sum.{areGates}
 use Rattle.lines.specs.Typed.{Typed, row}
-use Rattle.lines.specs.Spelling.{Reading, form as typed, gatesIn}
+use Rattle.lines.specs.Spelling.{Reading, typed, gatesIn}
 use Rattle.answers.specs.declared.Answer.{Answer}
 use Rattle.answers.specs.declared.Answer.the-variants as Answer
 use Rattle.engine.specs.declared.Kind.{Kind}

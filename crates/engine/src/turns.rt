@@ -11,7 +11,7 @@ ghost use Rattle.circuit.specs.History.{codeOf};
 ghost use Rattle.text.specs.declared.Bits.{Bits};
 ghost use Rattle.lines.specs.Gates.{layerGates};
 ghost use Rattle.lines.specs.Held.{heldReading};
-ghost use Rattle.lines.specs.Spelling.{form as typed, readingOf};
+ghost use Rattle.lines.specs.Spelling.{typed, readingOf};
 ghost use Rattle.lines.specs.Typed.{Typed};
 ghost use Rattle.engine.specs.Engine.{amplitude, readout, Circuit, Opened, present, Engine, SoundCircuit};
 ghost use Rattle.engine.specs.Response.{newCircuit, withoutLast, withNewStart, opening, besideUnread, stepOf, withoutSum, termsOf};

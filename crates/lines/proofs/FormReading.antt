@@ -15,7 +15,7 @@ use Rattle.text.proofs.ItemsSpelled.{colour-then}
 use Rattle.text.proofs.ItemCases.{keyword-cases, colour-cases}
 use Rattle.lines.specs.declared.Form.{Form}
 use Rattle.lines.specs.declared.Form.the-variants as Form
-use Rattle.lines.specs.Typed.{amp, part, Typed, circuit, gate, layer, undo, start, sum, step, drop as dropped, terms, stringsOf, row}
+use Rattle.lines.specs.Typed.{amp, part, Typed, circuit, gate, layer, undo, start, opens, step, drop as dropped, terms, stringsOf, row}
 use Rattle.lines.specs.Spelling.{spelled, allSome, Spells, colourTwice, anyColourTwice}
 use Rattle.lines.specs.Held.{heldGate, held}
 use Rattle.lines.specs.Gates.{layerGates}
@@ -38,8 +38,8 @@ read-spelled (gate (Cnot C c t)) h = gate-line-read (Cnot C c t) ∙ rw (or-fals
 read-spelled (layer gs) h = layer-read gs 0 false ∙ rw (zero-add (length gs))
 read-spelled (undo k) h = number-form-read (spelled (undo k)) 6 k Form.Undo refl
 read-spelled (start r b g) h = three-strings-read (spelled (start r b g)) 6 r b g Form.Start h refl
-read-spelled (sum (amp C r b g)) h = colour-then _ _ _ _ _ C _ refl λ e. three-strings-read (spelled (sum (amp C r b g))) 6 r b g (Form.Amp C) h e
-read-spelled (sum (part C x y)) h = colour-then _ _ _ _ _ C _ refl λ e. two-strings-read (spelled (sum (part C x y))) 7 x y (Form.Part C) h e
+read-spelled (opens (amp C r b g)) h = colour-then _ _ _ _ _ C _ refl λ e. three-strings-read (spelled (opens (amp C r b g))) 6 r b g (Form.Amp C) h e
+read-spelled (opens (part C x y)) h = colour-then _ _ _ _ _ C _ refl λ e. two-strings-read (spelled (opens (part C x y))) 7 x y (Form.Part C) h e
 read-spelled (step k) h = number-form-read (spelled (step k)) 6 k Form.Step refl
 read-spelled dropped h = ended-read (spelled dropped) 6 Form.Drop refl
 read-spelled terms h = ended-read (spelled terms) 7 Form.Terms refl
@@ -86,14 +86,14 @@ module _ (l : List ℕ) where
   amp-spelled a e =
       colour-cases Spelled l a (Form.Refused 4) four _ λ C b c.
       three-strings-cases Spelled l four (Form.Amp C) b λ x y z w r.
-      spells _ (sum (amp C x y z)) w (whole (bytes "(amp ") a _ e (c ∙ ap (λ (u : List ℕ). letter C ∷ u) r))
+      spells _ (opens (amp C x y z)) w (whole (bytes "(amp ") a _ e (c ∙ ap (λ (u : List ℕ). letter C ∷ u) r))
 
   part-spelled : (a : ℕ) → l ≡ bytes "(part " ++ drop a l → Spelled (partFrom l a)
   unfolding partFrom row stringsOf allSome spelled
   part-spelled a e =
       colour-cases Spelled l a (Form.Refused 4) four _ λ C b c.
       two-strings-cases Spelled l four (Form.Part C) b λ x y w r.
-      spells _ (sum (part C x y)) w (whole (bytes "(part ") a _ e (c ∙ ap (λ (u : List ℕ). letter C ∷ u) r))
+      spells _ (opens (part C x y)) w (whole (bytes "(part ") a _ e (c ∙ ap (λ (u : List ℕ). letter C ∷ u) r))
 
   layer-line-spelled : (a : ℕ) → l ≡ bytes "(layer" ++ drop a l → Spelled (layerFrom 0 0 false (drop a l))
   unfolding row stringsOf allSome spelled

@@ -11,7 +11,7 @@ use Rattle.circuit.specs.declared.Gate.the-variants.{Ccz, Cz, Cnot}
 use Rattle.text.specs.Reading.{capped, heldBits}
 use Rattle.lines.specs.declared.Form.{Form}
 use Rattle.lines.specs.declared.Form.the-variants as Form
-use Rattle.lines.specs.Typed.{amp, part, Typed, circuit, gate, layer, undo, start, sum, step, drop, terms}
+use Rattle.lines.specs.Typed.{amp, part, Typed, circuit, gate, layer, undo, start, opens, step, drop, terms}
 use Rattle.lines.specs.Held.{heldGate, gateForm, held}
 
 abbrev pub heldSpot : Spot → Spot
@@ -25,8 +25,8 @@ pub data HeldAs : Typed → Form → Type 0 where
   layers : {gs : List Gate} → HeldAs (layer gs) (Form.Layer (length gs))
   undos : {k : ℕ} → HeldAs (undo k) (Form.Undo (capped k))
   starts : {r b g : BitString} → HeldAs (start r b g) (Form.Start (heldBits r) (heldBits b) (heldBits g))
-  amps : {C : Colour} {r b g : BitString} → HeldAs (sum (amp C r b g)) (Form.Amp C (heldBits r) (heldBits b) (heldBits g))
-  parts : {C : Colour} {x y : BitString} → HeldAs (sum (part C x y)) (Form.Part C (heldBits x) (heldBits y))
+  amps : {C : Colour} {r b g : BitString} → HeldAs (opens (amp C r b g)) (Form.Amp C (heldBits r) (heldBits b) (heldBits g))
+  parts : {C : Colour} {x y : BitString} → HeldAs (opens (part C x y)) (Form.Part C (heldBits x) (heldBits y))
   steps : {k : ℕ} → HeldAs (step k) (Form.Step (capped k))
   drops : HeldAs drop Form.Drop
   lists : HeldAs terms Form.Terms
@@ -40,8 +40,8 @@ held-as (gate (Cnot C c t)) = cnots
 held-as (layer gs) = layers
 held-as (undo k) = undos
 held-as (start r b g) = starts
-held-as (sum (amp C r b g)) = amps
-held-as (sum (part C x y)) = parts
+held-as (opens (amp C r b g)) = amps
+held-as (opens (part C x y)) = parts
 held-as (step k) = steps
 held-as drop = drops
 held-as terms = lists

@@ -7,7 +7,7 @@ use Rattle.gf2.proofs.Impossible.{never}
 use Rattle.circuit.specs.declared.Gate.{Gate}
 use Rattle.lines.specs.declared.Form.the-variants as Form
 use Rattle.lines.specs.Typed.{Typed, layer}
-use Rattle.lines.specs.Spelling.{Reading, form, refused, readingOf}
+use Rattle.lines.specs.Spelling.{Reading, typed, refused, readingOf}
 use Rattle.lines.specs.Held.{heldGate, heldReading}
 use Rattle.lines.specs.Gates.{layerGates}
 use Rattle.lines.proofs.FormReading.{layer-gates}
@@ -15,15 +15,15 @@ use Rattle.lines.proofs.Readings.{form-read}
 use Rattle.lines.proofs.HeldForms.{HeldAs, layers, held-as}
 
 -- The gates of a line that is read as a layer, as the line hands them on.
-pub handed-on : (l : List ℕ) (gs : List Gate) → readingOf l ≡ form (layer gs) → layerGates l ≡ map heldGate gs
+pub handed-on : (l : List ℕ) (gs : List Gate) → readingOf l ≡ typed (layer gs) → layerGates l ≡ map heldGate gs
 handed-on l gs h = ap layerGates (form-read l (layer gs) h .spells .is) ∙ layer-gates gs
 
 -- What is held as a layer was read as one.
-pub held-layer : (r : Reading) (n : ℕ) → heldReading r ≡ Form.Layer n → (gs : List Gate) × (r ≡ form (layer gs)) × (n ≡ length gs)
+pub held-layer : (r : Reading) (n : ℕ) → heldReading r ≡ Form.Layer n → (gs : List Gate) × (r ≡ typed (layer gs)) × (n ≡ length gs)
 unfolding heldReading
-held-layer (form t) n h = go (rw h at (held-as t))
+held-layer (typed t) n h = go (rw h at (held-as t))
   where
-    go : {t : Typed} {n : ℕ} → HeldAs t (Form.Layer n) → (gs : List Gate) × (form t ≡ form (layer gs)) × (n ≡ length gs)
+    go : {t : Typed} {n : ℕ} → HeldAs t (Form.Layer n) → (gs : List Gate) × (typed t ≡ typed (layer gs)) × (n ≡ length gs)
     go (layers {gs}) = (gs, refl, refl)
 held-layer (refused e) n h = never (cc)
 

@@ -11,7 +11,7 @@ use Rattle.text.specs.Reading.{begins}
 use Rattle.text.proofs.Decimal.{value-decimal}
 use Rattle.text.proofs.BitDigits.{front-bits, after-bits}
 use Rattle.text.proofs.GatesUnique.{colour-of-letter, gate-of-spelled, gate-of-line}
-use Rattle.lines.specs.Typed.{amp, part, Typed, circuit, gate, layer, undo, start, sum, step, drop as dropped, terms}
+use Rattle.lines.specs.Typed.{amp, part, Typed, circuit, gate, layer, undo, start, opens, step, drop as dropped, terms}
 use Rattle.lines.specs.Spelling.{spelledGates, spelledBits, spelled, gatesAfter, typedOf}
 
 -- A layer's gates.
@@ -39,8 +39,8 @@ typed-of-spelled (gate (Cnot C c t)) = ap gate (gate-of-line (Cnot C c t))
 typed-of-spelled (layer gs) = ap layer (gates-of-spelled gs)
 typed-of-spelled (undo k) = rw (value-decimal k (bytes ")") refl)
 typed-of-spelled (start r b g) = simp (front-bits, after-bits)
-typed-of-spelled (sum (amp C r b g)) = simp (front-bits, after-bits, colour-of-letter)
-typed-of-spelled (sum (part C x y)) = simp (front-bits, after-bits, colour-of-letter)
+typed-of-spelled (opens (amp C r b g)) = simp (front-bits, after-bits, colour-of-letter)
+typed-of-spelled (opens (part C x y)) = simp (front-bits, after-bits, colour-of-letter)
 typed-of-spelled (step k) = rw (value-decimal k (bytes ")") refl)
 typed-of-spelled dropped = refl
 typed-of-spelled terms = refl

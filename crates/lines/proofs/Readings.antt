@@ -15,7 +15,7 @@ use Rattle.text.proofs.SameBytes.{same-itself, same-equal}
 use Rattle.lines.specs.declared.Form.{Form}
 use Rattle.lines.specs.declared.Form.the-variants as Form
 use Rattle.lines.specs.Typed.{Typed, row}
-use Rattle.lines.specs.Spelling.{spelled, allSome, Spells, Reading, form, refused, allAllowed, anyColourTwice, typedOf, shapeAs, readingOf}
+use Rattle.lines.specs.Spelling.{spelled, allSome, Spells, Reading, typed, refused, allAllowed, anyColourTwice, typedOf, shapeAs, readingOf}
 use Rattle.lines.specs.Held.{heldReading}
 use Rattle.lines.specs.Forms.{shapeOf}
 use Rattle.lines.proofs.AllowedSpelling.{spelled-allowed}
@@ -26,7 +26,7 @@ use Rattle.lines.proofs.OneSpelling.{typed-of-spelled}
 
 -- The line is the spelling of a form with no colour twice in a `cz`, or of one with, or of none.
 pub data Shape (l : List ℕ) : Reading → Type 0 where
-  fine : {t : Typed} → Spells l t → anyColourTwice (row t .gates) ≡ false → Shape l (form t)
+  fine : {t : Typed} → Spells l t → anyColourTwice (row t .gates) ≡ false → Shape l (typed t)
   twice : {t : Typed} → Spells l t → anyColourTwice (row t .gates) ≡ true → Shape l (refused 5)
   none : ((t : Typed) → Spells l t → ⊥) → Shape l (refused 4)
 
@@ -41,13 +41,13 @@ unfolding shapeAs
 shaped l = go (allSome (row (typedOf l) .strings) && sameBytes l (spelled (typedOf l))) (anyColourTwice (row (typedOf l) .gates)) refl refl
   where
     go : (p q : Bool) → allSome (row (typedOf l) .strings) && sameBytes l (spelled (typedOf l)) ≡ p → anyColourTwice (row (typedOf l) .gates) ≡ q
-        → Shape l (cond p (cond q (refused 5) (form (typedOf l))) (refused 4))
+        → Shape l (cond p (cond q (refused 5) (typed (typedOf l))) (refused 4))
     go true q e f =
         let b = and-both (allSome (row (typedOf l) .strings)) _ e in
         let s : Spells l (typedOf l) = record { strings = b .0; is = same-equal l (spelled (typedOf l)) (b .1) } in
         colours q f s
       where
-        colours : (q : Bool) → anyColourTwice (row (typedOf l) .gates) ≡ q → Spells l (typedOf l) → Shape l (cond q (refused 5) (form (typedOf l)))
+        colours : (q : Bool) → anyColourTwice (row (typedOf l) .gates) ≡ q → Spells l (typedOf l) → Shape l (cond q (refused 5) (typed (typedOf l)))
         colours true f s = twice s f
         colours false f s = fine s f
     go false q e f = none (λ t s. true≢false (sym (tested l t s) ∙ e))
@@ -89,7 +89,7 @@ read-as l = go (ltb 1024 (length l)) (allAllowed l) refl refl
     go false false e f = strange (ltb-false 1024 (length l) e) f
 
 -- A line of at most 1,024 bytes that spells a form is read as it, or as refusal 5.
-spelling-read : (l : List ℕ) (t : Typed) → length l ≤ 1024 → Spells l t → readingOf l ≡ cond (anyColourTwice (row t .gates)) (refused 5) (form t)
+spelling-read : (l : List ℕ) (t : Typed) → length l ≤ 1024 → Spells l t → readingOf l ≡ cond (anyColourTwice (row t .gates)) (refused 5) (typed t)
 unfolding readingOf shapeAs
 spelling-read l t short s =
     let same : typedOf l ≡ t = ap typedOf (s .is) ∙ typed-of-spelled t in
@@ -101,13 +101,13 @@ pub record FormRead (l : List ℕ) (t : Typed) : Type 0 where
   pub spells : Spells l t
   pub colours : anyColourTwice (row t .gates) ≡ false
 
-pub form-read : (l : List ℕ) (t : Typed) → readingOf l ≡ form t → FormRead l t
+pub form-read : (l : List ℕ) (t : Typed) → readingOf l ≡ typed t → FormRead l t
 form-read l t h = go (rw h at (read-as l))
   where
-    go : Read l (form t) → FormRead l t
+    go : Read l (typed t) → FormRead l t
     go (shape short a (fine s f)) = record { short = short; spells = s; colours = f }
 
-pub read-exactly : (l : List ℕ) (t : Typed) → (readingOf l ≡ form t) ↔ FormRead l t
+pub read-exactly : (l : List ℕ) (t : Typed) → (readingOf l ≡ typed t) ↔ FormRead l t
 read-exactly l t = (form-read l t, λ s. spelling-read l t (s .short) (s .spells) ∙ rw (s .colours))
 
 -- Refusals 2 to 5, each given exactly if.

@@ -6,8 +6,8 @@ use Rattle.circuit.specs.declared.Gate.the-variants.{Ccz, Cz, Cnot}
 use Rattle.text.specs.Reading.{capped, heldBits}
 use Rattle.lines.specs.declared.Form.{Form}
 use Rattle.lines.specs.declared.Form.the-variants as Form
-use Rattle.lines.specs.Typed.{amp, part, Typed, circuit, gate, layer, undo, start, sum, step, drop, terms}
-use Rattle.lines.specs.Spelling.{Reading, form, refused}
+use Rattle.lines.specs.Typed.{amp, part, Typed, circuit, gate, layer, undo, start, opens, step, drop, terms}
+use Rattle.lines.specs.Spelling.{Reading, typed, refused}
 
 unfoldable pub heldGate : Gate → Gate
 heldGate (Ccz i j k) = Ccz (capped i) (capped j) (capped k)
@@ -26,12 +26,12 @@ held (gate g) = gateForm (heldGate g)
 held (layer gs) = Form.Layer (length gs)
 held (undo k) = Form.Undo (capped k)
 held (start r b g) = Form.Start (heldBits r) (heldBits b) (heldBits g)
-held (sum (amp C r b g)) = Form.Amp C (heldBits r) (heldBits b) (heldBits g)
-held (sum (part C x y)) = Form.Part C (heldBits x) (heldBits y)
+held (opens (amp C r b g)) = Form.Amp C (heldBits r) (heldBits b) (heldBits g)
+held (opens (part C x y)) = Form.Part C (heldBits x) (heldBits y)
 held (step k) = Form.Step (capped k)
 held drop = Form.Drop
 held terms = Form.Terms
 
 unfoldable pub heldReading : Reading → Form
-heldReading (form t) = held t
+heldReading (typed t) = held t
 heldReading (refused n) = Form.Refused n

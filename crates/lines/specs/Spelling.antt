@@ -12,7 +12,7 @@ use Rattle.circuit.specs.declared.Gate.the-variants.{Ccz, Cz, Cnot}
 use Rattle.text.specs.Spelling.{bytes, sameBytes, decimal, letter, bitDigits, spelledGate}
 use Rattle.text.specs.Reading.{begins}
 use Rattle.text.specs.Items.{valueFrom, frontBits, pastBits, colourOf, gateOf}
-use Rattle.lines.specs.Typed.{Asked, amp, part, Typed, circuit, gate, layer, undo, start, sum, step, drop as dropped, terms, row}
+use Rattle.lines.specs.Typed.{Asked, amp, part, Typed, circuit, gate, layer, undo, start, opens, step, drop as dropped, terms, row}
 
 -- ---- one spelling a form
 
@@ -31,8 +31,8 @@ spelled (gate g) = spelledGate g
 spelled (layer gs) = bytes "(layer" ++ (spelledGates gs ++ bytes ")")
 spelled (undo k) = bytes "(undo " ++ (decimal k ++ bytes ")")
 spelled (start r b g) = bytes "(start" ++ (spelledBits r ++ (spelledBits b ++ (spelledBits g ++ bytes ")")))
-spelled (sum (amp C r b g)) = bytes "(amp " ++ (letter C ∷ (spelledBits r ++ (spelledBits b ++ (spelledBits g ++ bytes ")"))))
-spelled (sum (part C x y)) = bytes "(part " ++ (letter C ∷ (spelledBits x ++ (spelledBits y ++ bytes ")")))
+spelled (opens (amp C r b g)) = bytes "(amp " ++ (letter C ∷ (spelledBits r ++ (spelledBits b ++ (spelledBits g ++ bytes ")"))))
+spelled (opens (part C x y)) = bytes "(part " ++ (letter C ∷ (spelledBits x ++ (spelledBits y ++ bytes ")")))
 spelled (step k) = bytes "(step " ++ (decimal k ++ bytes ")")
 spelled dropped = bytes "(drop)"
 spelled terms = bytes "(terms)"
@@ -54,7 +54,7 @@ pub record Spells (l : List ℕ) (t : Typed) : Type 0 where
 
 -- A form, or the number of the refusal.
 pub data Reading : Type 0 where
-  form : Typed → Reading
+  typed : Typed → Reading
   refused : ℕ → Reading
 
 -- Refusal 3: "a byte other than digits, a to z, ( ) and space"
@@ -88,8 +88,8 @@ typedOf l =
     (cond (begins (bytes "(layer") l) (layer (gatesAfter 0 (drop 6 l)))
     (cond (begins (bytes "(undo ") l) (undo (valueFrom 0 (drop 6 l)))
     (cond (begins (bytes "(start") l) (start (frontBits (drop 7 l)) (frontBits (pastBits (drop 7 l))) (frontBits (pastBits (pastBits (drop 7 l)))))
-    (cond (begins (bytes "(amp ") l) (sum (amp (colourOf (getD l 5 0)) (frontBits (drop 7 l)) (frontBits (pastBits (drop 7 l))) (frontBits (pastBits (pastBits (drop 7 l))))))
-    (cond (begins (bytes "(part ") l) (sum (part (colourOf (getD l 6 0)) (frontBits (drop 8 l)) (frontBits (pastBits (drop 8 l)))))
+    (cond (begins (bytes "(amp ") l) (opens (amp (colourOf (getD l 5 0)) (frontBits (drop 7 l)) (frontBits (pastBits (drop 7 l))) (frontBits (pastBits (pastBits (drop 7 l))))))
+    (cond (begins (bytes "(part ") l) (opens (part (colourOf (getD l 6 0)) (frontBits (drop 8 l)) (frontBits (pastBits (drop 8 l)))))
     (cond (begins (bytes "(step ") l) (step (valueFrom 0 (drop 6 l)))
     (cond (begins (bytes "(drop)") l) dropped
     (cond (begins (bytes "(terms)") l) terms (gate (gateOf l))))))))))
@@ -97,7 +97,7 @@ typedOf l =
 -- Refusals 4 and 5 of a line: "not one of the twelve forms, or a bit string holds another digit", and a `cz` with one colour twice.
 unfoldable pub shapeAs : List ℕ → Typed → Reading
 shapeAs l t =
-    cond (allSome (row t .strings) && sameBytes l (spelled t)) (cond (anyColourTwice (row t .gates)) (refused 5) (form t)) (refused 4)
+    cond (allSome (row t .strings) && sameBytes l (spelled t)) (cond (anyColourTwice (row t .gates)) (refused 5) (typed t)) (refused 4)
 
 -- Refusals 2 and 3 before them: "longer than 1,024 bytes, line feed not counted". A line of no bytes is skipped before it is read.
 unfoldable pub readingOf : List ℕ → Reading
@@ -105,5 +105,5 @@ readingOf l = cond (ltb 1024 (length l)) (refused 2) (cond (allAllowed l) (shape
 
 -- The gates of a line: one, those of a layer, or none.
 unfoldable pub gatesIn : Reading → List Gate
-gatesIn (form t) = row t .gates
+gatesIn (typed t) = row t .gates
 gatesIn (refused n) = []

@@ -21,7 +21,7 @@ pub data Typed : Type 0 where
   layer : List Gate → Typed
   undo : ℕ → Typed
   start : BitString → BitString → BitString → Typed
-  sum : Asked → Typed
+  opens : Asked → Typed
   step : ℕ → Typed
   drop : Typed
   terms : Typed
@@ -57,7 +57,7 @@ row (gate g) = building (g ∷ [])
 row (layer gs) = building gs
 row (undo k) = numbered TakesBack k 1 4096
 row (start r b g) = bare Starts (r ∷ b ∷ g ∷ []) []
-row (sum q) = bare Opens (stringsOf q) (q ∷ [])
+row (opens q) = bare Opens (stringsOf q) (q ∷ [])
 row (step k) = numbered Steps k 1 65536
 row drop = bare Drops [] []
 row terms = bare Lists [] []

@@ -17,8 +17,8 @@ use Rattle.circuit.specs.Sum.{isPosition}
 use Rattle.text.specs.Reading.{capped, heldBits}
 use Rattle.lines.specs.declared.Class.{Class}
 use Rattle.lines.specs.declared.Class.the-variants as Class
-use Rattle.lines.specs.Typed.{Asked, amp, part, Typed, circuit, gate, layer, undo, start, sum, step, drop, terms, numbered, bare, building, stringsOf, row}
-use Rattle.lines.specs.Spelling.{Reading, form, refused, readingOf}
+use Rattle.lines.specs.Typed.{Asked, amp, part, Typed, circuit, gate, layer, undo, start, opens, step, drop, terms, numbered, bare, building, stringsOf, row}
+use Rattle.lines.specs.Spelling.{Reading, typed, refused, readingOf}
 use Rattle.lines.specs.Held.{heldGate, gateForm, held, heldReading}
 use Rattle.lines.proofs.LayerLine.{handed-on}
 use Rattle.lines.proofs.LayerWalk.{layer-walked}
@@ -146,7 +146,7 @@ unfolding wrongLength anyNotLong notLong heldBits
 two-alike m x y = rw or-false
 
 -- The held row of a line that is read as a form tells of that form.
-pub row-told : (l : List ℕ) (t : Typed) → readingOf l ≡ form t → (r : HeldRow) × (heldRow (held t) ≡ FormRow.Row r) × Tells l t r
+pub row-told : (l : List ℕ) (t : Typed) → readingOf l ≡ typed t → (r : HeldRow) × (heldRow (held t) ≡ FormRow.Row r) × Tells l t r
 unfolding heldRow held gateForm heldGate heldReading row stringsOf metGates countOf wrongLength anyNotLong
 row-told l (circuit m) h = (_, refl, number-told l (circuit m) Class.Creates m 1 16 (omega arith) (omega arith) refl)
 row-told l (gate (Ccz i j k)) h = (_, refl, gates-told l (gate (Ccz i j k)) _ _ refl refl refl)
@@ -156,8 +156,8 @@ row-told l (layer gs) h =
     (_, refl, gates-told l (layer gs) (Gates.Layer (length gs)) gs refl (layer-walked l (length gs) (ap heldReading h) ∙ handed-on l gs h) refl)
 row-told l (undo k) h = (_, refl, number-told l (undo k) Class.TakesBack k 1 4096 (omega arith) (omega arith) refl)
 row-told l (start r b g) h = (_, refl, strings-told l (start r b g) Class.Starts _ _ _ refl (λ m. three-alike m r b g))
-row-told l (sum (amp C r b g)) h = (_, refl, strings-told l (sum (amp C r b g)) Class.Opens _ _ _ refl (λ m. three-alike m r b g))
-row-told l (sum (part C x y)) h = (_, refl, strings-told l (sum (part C x y)) Class.Opens _ _ _ refl (λ m. two-alike m x y))
+row-told l (opens (amp C r b g)) h = (_, refl, strings-told l (opens (amp C r b g)) Class.Opens _ _ _ refl (λ m. three-alike m r b g))
+row-told l (opens (part C x y)) h = (_, refl, strings-told l (opens (part C x y)) Class.Opens _ _ _ refl (λ m. two-alike m x y))
 row-told l (step k) h = (_, refl, number-told l (step k) Class.Steps k 1 65536 (omega arith) (omega arith) refl)
 row-told l drop h = (_, refl, strings-told l drop Class.Drops Strings.None [] [] refl (λ m. refl))
 row-told l terms h = (_, refl, strings-told l terms Class.Lists Strings.None [] [] refl (λ m. refl))
@@ -166,9 +166,9 @@ row-told l terms h = (_, refl, strings-told l terms Class.Lists Strings.None [] 
 
 -- A line that has a held row is read as a form, and the row tells of it.
 pub row-of-form : (l : List ℕ) (a : Reading) → readingOf l ≡ a → (r : HeldRow) → heldRow (heldReading a) ≡ FormRow.Row r
-    → (t : Typed) × (a ≡ form t) × Tells l t r
+    → (t : Typed) × (a ≡ typed t) × Tells l t r
 unfolding heldReading heldRow
-row-of-form l (form t) h r e =
+row-of-form l (typed t) h r e =
     let told = row-told l t h in
     let same : told .0 ≡ r = cc in
     (t, refl, rw same at (told .2))
@@ -177,7 +177,7 @@ row-of-form l (refused n) h r e = never (cc)
 -- A line whose row is a refusal is refused by that number.
 pub row-refused : (l : List ℕ) (a : Reading) → readingOf l ≡ a → (e : ℕ) → heldRow (heldReading a) ≡ FormRow.Refused e → a ≡ refused e
 unfolding heldReading heldRow
-row-refused l (form t) h e p = let told = row-told l t h in never (cc)
+row-refused l (typed t) h e p = let told = row-told l t h in never (cc)
 row-refused l (refused n) h e p = let same : n ≡ e = cc in ap refused same
 
 module _ (l : List ℕ) (t : Typed) (r : HeldRow) (told : Tells l t r) where

@@ -13,7 +13,7 @@ use Rattle.circuit.specs.Sum.{isPosition}
 use Rattle.lines.specs.declared.Class.{Class}
 use Rattle.lines.specs.declared.Class.the-variants.{Creates, Builds, TakesBack, Starts, Opens, Steps, Drops, Lists}
 use Rattle.lines.specs.Typed.{Row, row}
-use Rattle.lines.specs.Spelling.{Reading, form, refused}
+use Rattle.lines.specs.Spelling.{Reading, typed, refused}
 
 -- The number of the second test if the first finds none.
 unfoldable pub orElse : ℕ → ℕ → ℕ
@@ -114,5 +114,5 @@ rowRefusal loaded summing m room held r =
 -- "Places are tried from the top.": Line and Form, which the reading has tried, then Moment, Operands, History. By what they look at: whether
 -- there is a circuit and an open sum, m, the places of the history and how many are held, and what the line is read as.
 unfoldable pub refusalBy : Bool → Bool → ℕ → ℕ → ℕ → Reading → ℕ
-refusalBy loaded summing m room held (form t) = rowRefusal loaded summing m room held (row t)
+refusalBy loaded summing m room held (typed t) = rowRefusal loaded summing m room held (row t)
 refusalBy loaded summing m room held (refused n) = n
