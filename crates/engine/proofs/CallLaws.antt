@@ -18,7 +18,7 @@ use Rattle.circuit.specs.Words.{wordsOf}
 use Rattle.circuit.specs.Listing.{listing, entryOf}
 use Rattle.circuit.proofs.Gates.{ccz-positions, cz-positions, cnot-positions}
 use Rattle.circuit.proofs.TermGates.{entry-gate}
-use Rattle.lines.specs.Spelling.{readingOf}
+use Rattle.lines.specs.Readings.{readingOf}
 use Rattle.answers.specs.declared.Answer.{Answer}
 use Rattle.answers.specs.declared.Answer.the-variants as Answer
 use Rattle.answers.specs.Answers.{bytesOf, infront, Written}

@@ -13,7 +13,8 @@ use Rattle.circuit.specs.declared.Gate.{Gate}
 use Rattle.circuit.specs.Sum.{areGates}
 use Rattle.circuit.specs.History.{codeOf}
 use Rattle.lines.specs.Typed.{row}
-use Rattle.lines.specs.Spelling.{Reading, gatesIn, readingOf}
+use Rattle.lines.specs.Spelling.{Reading, gatesIn}
+use Rattle.lines.specs.Readings.{readingOf}
 use Rattle.answers.specs.declared.Answer.{Answer}
 use Rattle.engine.specs.declared.State.{State}
 use Rattle.engine.specs.declared.Reply.{Reply}

@@ -8,7 +8,8 @@ use lib.Dec.{eqb, ltb}
 use lib.ListN.{length}
 use borrow.Author.Tests.{ne-eqb}
 use Rattle.lines.specs.Typed.{Typed}
-use Rattle.lines.specs.Spelling.{Reading, typed, refused, readingOf}
+use Rattle.lines.specs.Spelling.{Reading, typed, refused}
+use Rattle.lines.specs.Readings.{readingOf}
 use Rattle.lines.proofs.Readings.{refused-among}
 use Rattle.answers.specs.declared.Answer.{Answer}
 use Rattle.engine.specs.Engine.{Loaded, Engine}

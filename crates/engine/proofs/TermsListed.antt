@@ -16,7 +16,8 @@ use Rattle.circuit.proofs.EveryTermOnce.{listing-once}
 use Rattle.circuit.proofs.MorePositions.{listing-16}
 use Rattle.text.specs.Spelling.{bytes, spelledGate}
 use Rattle.lines.specs.Typed.{terms, row}
-use Rattle.lines.specs.Spelling.{spelled, typed, readingOf}
+use Rattle.lines.specs.Spelling.{spelled, typed}
+use Rattle.lines.specs.Readings.{readingOf}
 use Rattle.lines.proofs.Readings.{form-read}
 use Rattle.answers.specs.declared.Answer.the-variants as Answer
 use Rattle.answers.specs.Answers.{bytesOf}

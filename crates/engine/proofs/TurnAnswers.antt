@@ -17,7 +17,8 @@ use Rattle.circuit.specs.Listing.{overPositions, triples, pairsBeside, everyTer
 use Rattle.slices.specs.Totals.{amplitudeAfter}
 use Rattle.slices.proofs.Bounds.{amplitudeAfter-bound, readoutCount-bound}
 use Rattle.lines.specs.Typed.{amp, part, Typed, circuit, gate, layer, undo, start, opens, step, drop, terms}
-use Rattle.lines.specs.Spelling.{Reading, typed, refused, readingOf}
+use Rattle.lines.specs.Spelling.{Reading, typed, refused}
+use Rattle.lines.specs.Readings.{readingOf}
 use Rattle.lines.proofs.Readings.{refused-among}
 use Rattle.answers.specs.Answers.{bytesOf}
 use Rattle.answers.proofs.Lengths.{Modest, answer-fits}

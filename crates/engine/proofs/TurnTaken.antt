@@ -22,7 +22,8 @@ use Rattle.lines.specs.declared.Class.the-variants as Class
 use Rattle.lines.specs.declared.Form.{Form}
 use Rattle.lines.specs.declared.Form.the-variants as Form
 use Rattle.lines.specs.Typed.{amp, part, Typed, circuit, gate, layer, undo, start, opens, step, drop, terms, stringsOf, row}
-use Rattle.lines.specs.Spelling.{typed, anyColourTwice, readingOf}
+use Rattle.lines.specs.Spelling.{typed, anyColourTwice}
+use Rattle.lines.specs.Readings.{readingOf}
 use Rattle.lines.specs.Held.{heldGate, held, heldReading}
 use Rattle.lines.specs.Gates.{layerGates}
 use Rattle.lines.proofs.Readings.{form-read}

@@ -15,7 +15,8 @@ use Rattle.circuit.specs.Sum.{areGates}
 use Rattle.text.specs.Spelling.{numberOfBits}
 use Rattle.lines.specs.declared.Class.the-variants as Class
 use Rattle.lines.specs.Typed.{amp, part, Typed, circuit, gate, layer, undo, start, opens, step, drop, terms, stringsOf, row}
-use Rattle.lines.specs.Spelling.{Reading, typed, refused, readingOf}
+use Rattle.lines.specs.Spelling.{Reading, typed, refused}
+use Rattle.lines.specs.Readings.{readingOf}
 use Rattle.lines.proofs.Readings.{form-read, refused-among}
 use Rattle.answers.specs.declared.Answer.{Answer}
 use Rattle.answers.specs.declared.Answer.the-variants as Answer

@@ -11,7 +11,8 @@ use Rattle.circuit.specs.declared.Entry.the-variants.{Listed as ListedAt, Nothi
 use Rattle.circuit.specs.Polynomial.{polynomial}
 use Rattle.circuit.specs.Listing.{listing, entryOf}
 use Rattle.circuit.specs.History.{codeOf}
-use Rattle.lines.specs.Spelling.{gatesIn, readingOf}
+use Rattle.lines.specs.Spelling.{gatesIn}
+use Rattle.lines.specs.Readings.{readingOf}
 use Rattle.answers.specs.declared.Answer.{Answer}
 use Rattle.answers.specs.declared.Answer.the-variants as Answer
 use Rattle.answers.specs.Answers.{bytesOf, infront}

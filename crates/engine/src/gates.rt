@@ -9,7 +9,7 @@ ghost use Rattle.circuit.specs.Sum.{isGate, areGates};
 ghost use Rattle.circuit.specs.History.{codeOf};
 ghost use Rattle.lines.specs.Gates.{layerGates};
 ghost use Rattle.lines.specs.Held.{heldReading};
-ghost use Rattle.lines.specs.Spelling.{readingOf};
+ghost use Rattle.lines.specs.Readings.{readingOf};
 ghost use Rattle.lines.specs.declared.Form.the-variants as Form;
 ghost use Rattle.engine.specs.Engine.{Circuit, Opened, present};
 ghost use Rattle.engine.specs.State.{encodeLoaded};

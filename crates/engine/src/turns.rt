@@ -11,7 +11,8 @@ ghost use Rattle.circuit.specs.History.{codeOf};
 ghost use Rattle.text.specs.declared.Bits.{Bits};
 ghost use Rattle.lines.specs.Gates.{layerGates};
 ghost use Rattle.lines.specs.Held.{heldReading};
-ghost use Rattle.lines.specs.Spelling.{typed, readingOf};
+ghost use Rattle.lines.specs.Spelling.{typed};
+ghost use Rattle.lines.specs.Readings.{readingOf};
 ghost use Rattle.lines.specs.Typed.{Typed};
 ghost use Rattle.engine.specs.Engine.{amplitude, readout, Circuit, Opened, present, Engine, SoundCircuit};
 ghost use Rattle.engine.specs.Response.{newCircuit, withoutLast, withNewStart, opening, besideUnread, stepOf, withoutSum, termsOf};
@@ -136,11 +137,9 @@ fn layer_turn(state: State, history: &mut [u32], line: &[u8], form: Form) -> Tur
     let Form::Layer(n) = form else {
         return turned_back(state, form);
     };
-    let next = crate::gates::take_layer(state, history, line, n);
-    let answer = Answer::Ok;
     Turn {
-        state: next,
-        answer,
+        state: crate::gates::take_layer(state, history, line, n),
+        answer: Answer::Ok,
     }
 }
 

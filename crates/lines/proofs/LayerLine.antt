@@ -7,7 +7,8 @@ use Rattle.gf2.proofs.Impossible.{never}
 use Rattle.circuit.specs.declared.Gate.{Gate}
 use Rattle.lines.specs.declared.Form.the-variants as Form
 use Rattle.lines.specs.Typed.{Typed, layer}
-use Rattle.lines.specs.Spelling.{Reading, typed, refused, readingOf}
+use Rattle.lines.specs.Spelling.{Reading, typed, refused}
+use Rattle.lines.specs.Readings.{readingOf}
 use Rattle.lines.specs.Held.{heldGate, heldReading}
 use Rattle.lines.specs.Gates.{layerGates}
 use Rattle.lines.proofs.FormReading.{layer-gates}

@@ -10,7 +10,7 @@ use Rattle.gf2.proofs.Impossible.{never}
 use Rattle.circuit.specs.declared.Gate.{Gate}
 use Rattle.text.specs.Reading.{begins, readKeyword}
 use Rattle.lines.specs.Gates.{withGate, readGate, gatesFrom, layerGates, gatesAt, layerGateAt, gatesMet}
-use Rattle.lines.specs.Spelling.{readingOf}
+use Rattle.lines.specs.Readings.{readingOf}
 use Rattle.lines.specs.Held.{heldReading}
 use Rattle.lines.specs.declared.GateAt.{GateAt}
 use Rattle.lines.specs.declared.GateAt.the-variants.{Read as GateRead, Missing as NoGate}

@@ -15,7 +15,8 @@ use Rattle.text.proofs.SameBytes.{same-itself, same-equal}
 use Rattle.lines.specs.declared.Form.{Form}
 use Rattle.lines.specs.declared.Form.the-variants as Form
 use Rattle.lines.specs.Typed.{Typed, row}
-use Rattle.lines.specs.Spelling.{spelled, allSome, Spells, Reading, typed, refused, allAllowed, anyColourTwice, typedOf, shapeAs, readingOf}
+use Rattle.lines.specs.Spelling.{spelled, allSome, Spells, Reading, typed, refused, allAllowed, anyColourTwice}
+use Rattle.lines.specs.Readings.{typedOf, shapeAs, readingOf}
 use Rattle.lines.specs.Held.{heldReading}
 use Rattle.lines.specs.Forms.{shapeOf}
 use Rattle.lines.proofs.AllowedSpelling.{spelled-allowed}

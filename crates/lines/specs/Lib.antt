@@ -1,5 +1,6 @@
 pub mod Typed
 pub mod Spelling
+pub mod Readings
 pub mod Held
 pub mod Gates
 pub mod Forms

@@ -2,7 +2,8 @@
 ghost use mathlib.Core.Path.{_≡_};
 ghost use Rattle.lines.specs.Forms.{shapeOf};
 ghost use Rattle.lines.specs.Held.{heldReading};
-ghost use Rattle.lines.specs.Spelling.{isAllowed, allAllowed, readingOf};
+ghost use Rattle.lines.specs.Spelling.{isAllowed, allAllowed};
+ghost use Rattle.lines.specs.Readings.{readingOf};
 use circuit::Colour;
 use circuit::Gate;
 use circuit::Spot;

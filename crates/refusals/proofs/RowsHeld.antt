@@ -15,10 +15,12 @@ use Rattle.circuit.specs.declared.Gate.{Gate}
 use Rattle.circuit.specs.declared.Gate.the-variants.{Ccz, Cz, Cnot}
 use Rattle.circuit.specs.Sum.{isPosition}
 use Rattle.text.specs.Reading.{capped, heldBits}
+use Rattle.text.proofs.Capped.{capped-exact}
 use Rattle.lines.specs.declared.Class.{Class}
 use Rattle.lines.specs.declared.Class.the-variants as Class
 use Rattle.lines.specs.Typed.{Asked, amp, part, Typed, circuit, gate, layer, undo, start, opens, step, drop, terms, numbered, bare, building, stringsOf, row}
-use Rattle.lines.specs.Spelling.{Reading, typed, refused, readingOf}
+use Rattle.lines.specs.Spelling.{Reading, typed, refused}
+use Rattle.lines.specs.Readings.{readingOf}
 use Rattle.lines.specs.Held.{heldGate, gateForm, held, heldReading}
 use Rattle.lines.proofs.LayerLine.{handed-on}
 use Rattle.lines.proofs.LayerWalk.{layer-walked}
@@ -54,7 +56,7 @@ within-capped low high n a b =
 -- A number in such a range is held exactly.
 pub number-inside : (low high n : ℕ) → high ≤ 65536 → within low high n ≡ true → capped n ≡ n
 unfolding within
-number-inside low high n a w = let below = leb-true n high (and-both (leb low n) (leb n high) w .1) in omega arith
+number-inside low high n a w = let below = leb-true n high (and-both (leb low n) (leb n high) w .1) in capped-exact n (omega arith)
 
 -- ---- the gates of a circuit of at most 16 positions
 

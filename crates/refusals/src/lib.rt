@@ -2,7 +2,7 @@
 ghost use mathlib.Core.Path.{_≡_};
 ghost use Prim.Native.Nat.{min};
 ghost use Rattle.lines.specs.Held.{heldReading};
-ghost use Rattle.lines.specs.Spelling.{readingOf};
+ghost use Rattle.lines.specs.Readings.{readingOf};
 ghost use Rattle.refusals.specs.Refusals.{refusalBy};
 use lines::Form;
 

@@ -8,7 +8,7 @@ ghost use Rattle.circuit.specs.Sum.{isPosition};
 ghost use Rattle.lines.specs.declared.Class.the-variants as Class;
 ghost use Rattle.lines.specs.Gates.{gatesMet};
 ghost use Rattle.lines.specs.Held.{heldReading};
-ghost use Rattle.lines.specs.Spelling.{readingOf};
+ghost use Rattle.lines.specs.Readings.{readingOf};
 ghost use Rattle.lines.specs.Typed.{Typed, row as typedRow};
 ghost use Rattle.refusals.specs.HeldRows.{notLong, wrongLength, metGates, countOf, Tells};
 ghost use Rattle.refusals.specs.Refusals.{isClass, works, momentRefusal, inRange, onItself, allInRange, anyOnItself, within, operandRefusal, places, historyRefusal, rowRefusal, refusalBy};

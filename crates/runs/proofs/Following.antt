@@ -13,7 +13,8 @@ use Rattle.text.specs.Spelling.{sameBytes, numberOfBits}
 use Rattle.text.specs.Reading.{begins}
 use Rattle.text.proofs.BitNumbers.{digits-back}
 use Rattle.lines.specs.Typed.{Asked, amp, part, row}
-use Rattle.lines.specs.Spelling.{Reading, readingOf}
+use Rattle.lines.specs.Spelling.{Reading}
+use Rattle.lines.specs.Readings.{readingOf}
 use Rattle.answers.specs.declared.Answer.{Answer}
 use Rattle.answers.specs.declared.Answer.the-variants as Answer
 use Rattle.answers.specs.Answers.{bytesOf}

@@ -6,7 +6,7 @@ use Prim.Native.Nat.{ℕ}
 use lib.ListN.{length}
 use Rattle.text.specs.Reading.{begins}
 use Rattle.text.specs.Spelling.{sameBytes}
-use Rattle.lines.specs.Spelling.{readingOf}
+use Rattle.lines.specs.Readings.{readingOf}
 use Rattle.engine.specs.declared.State.{State}
 use Rattle.engine.specs.Engine.{Loaded, Engine, freshEngine}
 use Rattle.engine.specs.State.{encode, Holds}

@@ -13,7 +13,8 @@ use Rattle.text.specs.Spelling.{sameBytes}
 use Rattle.text.specs.Reading.{begins}
 use Rattle.lines.specs.declared.Class.the-variants as Class
 use Rattle.lines.specs.Typed.{Typed, part, opens, step, row}
-use Rattle.lines.specs.Spelling.{Reading, typed, refused, readingOf}
+use Rattle.lines.specs.Spelling.{Reading, typed, refused}
+use Rattle.lines.specs.Readings.{readingOf}
 use Rattle.refusals.specs.Refusals.{classNumber, isClass}
 use Rattle.answers.specs.declared.Answer.{Answer}
 use Rattle.answers.specs.declared.Answer.the-variants as Answer

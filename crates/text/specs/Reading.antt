@@ -21,9 +21,12 @@ use Rattle.text.specs.declared.BitsAt.the-variants.{Read as BitsRead, Mi
 
 -- ---- what is held of an operand
 
--- 65,537 stands for every number above 65,536, the largest that any form allows.
+-- Stands for every number above 65,536, the largest that any form allows (`capped-exact`, `capped-above`).
+abbrev pub aboveAll : ℕ
+aboveAll = 65537
+
 abbrev pub capped : ℕ → ℕ
-capped n = min n 65537
+capped n = min n aboveAll
 
 -- A bit string's length, and its number modulo 2 ^ 16: exact up to 16 bits.
 unfoldable pub heldBits : BitString → Bits

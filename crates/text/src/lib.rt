@@ -56,10 +56,13 @@ fn wide(b: u8) -> usize
     b as usize
 }
 
+// Stands for every number above 65,536, the largest that any form allows.
+const ABOVE_ALL: usize = 65537;
+
 fn cap(n: usize) -> usize
     ensures { λ r. ⌜ r ≡ capped n ⌝ }
 {
-    if n < 65537 { n } else { 65537 }
+    if n < ABOVE_ALL { n } else { ABOVE_ALL }
 }
 
 // 0 alone, or digits of which the first is not 0.

@@ -1,7 +1,7 @@
 -- Each stage is the test of `readingOf` in its order; what the shape holds is held of what the line spells.
 use mathlib.Core.Path.{sym, _∙_}
 use borrow.Author.Tests.{lt-ltb, le-ltb, not-true, not-false}
-use Rattle.lines.specs.Spelling.{readingOf}
+use Rattle.lines.specs.Readings.{readingOf}
 use Rattle.lines.specs.Held.{heldReading}
 use Rattle.lines.proofs.Readings.{shape-held}
 use borrow.Author.Needs.{needs}

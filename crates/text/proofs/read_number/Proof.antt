@@ -4,14 +4,14 @@ use mathlib.Core.Path.{_≡_, ap, sym, _∙_}
 use native.Mathlib.Omega.{arith}
 use denote.Ref.{now}
 use lib.ListN.{length, drop}
-use Rattle.text.specs.Reading.{capped, digitsFrom, readNumber}
+use Rattle.text.specs.Reading.{aboveAll, capped, digitsFrom, readNumber}
 use Rattle.text.proofs.Scanning.{digits-end, digits-low, digits-high, digits-on, number-out, number-zero, number-low, number-high, number-on}
 use borrow.Author.Needs.{needs}
 use Rattle.text.proofs.read_number.Statement.{statement}
 use Rattle.text.proofs.read_number.Tie as tie
 
 abbrev Inv-loop : tie.InvT-loop
-Inv-loop line at first value₀ i₀ value i = (value ≤ 65537) × (digitsFrom value i (drop i line) ≡ readNumber line at)
+Inv-loop line at first value₀ i₀ value i = (value ≤ aboveAll) × (digitsFrom value i (drop i line) ≡ readNumber line at)
 
 abbrev μ-loop : tie.MeasureT-loop
 μ-loop line at first value₀ i₀ value i = length line - i

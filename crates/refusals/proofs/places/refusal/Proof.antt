@@ -1,7 +1,7 @@
 -- The row of a form tells of what was typed, and the row of a refusal is its number.
 use mathlib.Core.Path.{refl, ap, sym, _∙_}
 use denote.Ref.{now}
-use Rattle.lines.specs.Spelling.{readingOf}
+use Rattle.lines.specs.Readings.{readingOf}
 use Rattle.refusals.specs.HeldRows.{heldRow}
 use Rattle.refusals.specs.Refusals.{refusalBy}
 use Rattle.refusals.proofs.RowsHeld.{row-of-form, row-refused}
