@@ -9,7 +9,7 @@ use lib.Dec.{ltb, eqb}
 use lib.ListN.{length, take, drop, replicate, length-take, length-append, length-replicate}
 use lib.Seq.{take-all, take-length, take-append-seam, drop-append-add}
 use borrow.Author.Tests.{lt-ltb, ltb-true, ltb-false, ne-eqb}
-use Rattle.lines.specs.Forms.{formOf}
+use Rattle.lines.specs.Readings.{readingOf}
 use Rattle.framing.specs.Framing.{clipped, pendingOf, fitting, placed, joined, bytesOf}
 
 pub clipped-short : (l : List ℕ) → length l ≤ 1025 → clipped l ≡ l
@@ -21,15 +21,15 @@ unfolding clipped
 clipped-length l = length-take 1025 l
 
 -- A line longer than 1,024 bytes is refused by 2, and so is what is kept of it.
-pub clipped-read-alike : (l : List ℕ) → formOf (clipped l) ≡ formOf l
-unfolding formOf
+pub clipped-read-alike : (l : List ℕ) → readingOf (clipped l) ≡ readingOf l
+unfolding readingOf
 clipped-read-alike l = go (ltb 1024 (length l)) refl
   where
-    go : (t : Bool) → ltb 1024 (length l) ≡ t → formOf (clipped l) ≡ formOf l
+    go : (t : Bool) → ltb 1024 (length l) ≡ t → readingOf (clipped l) ≡ readingOf l
     go true t =
         let long = ltb-true 1024 (length l) t in
         rw (lt-ltb 1024 (length (clipped l)) (omega (arith, clipped-length l)), t)
-    go false t = let short = ltb-false 1024 (length l) t in ap formOf (clipped-short l (omega arith))
+    go false t = let short = ltb-false 1024 (length l) t in ap readingOf (clipped-short l (omega arith))
 
 -- A line of no bytes, which the engine skips, is one also when clipped, and no other.
 pub clipped-empty-alike : (l : List ℕ) → eqb (length (clipped l)) 0 ≡ eqb (length l) 0

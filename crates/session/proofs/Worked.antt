@@ -10,20 +10,21 @@ use Rattle.circuit.specs.Listing.{overPositions, triples, pairsBeside, everyTer
 use Rattle.slices.specs.Packing.{strings}
 use Rattle.slices.specs.Slices.{along, coefficient, gamma, innerSum}
 use Rattle.slices.specs.Totals.{isNought, amplitudeAfter, share, tallyBelow, readoutAfter, readoutCount}
-use Rattle.text.specs.Spelling.{digits, decimal, signedDecimal, spelledSpot, spelledGate}
-use Rattle.text.specs.Reading.{begins, readKeyword, digitsFrom, numberFrom, readNumber, colourFrom, readColour, bitsFrom, oneOrMore, readBits, spacedNumber, spacedBits}
-use Rattle.lines.specs.Spelling.{colourTwice, gateForm}
-use Rattle.lines.specs.Gates.{readCcz, readSpot, readCz, readCnot, readGate, gatesFrom, layerGates}
-use Rattle.lines.specs.Forms.{isAllowed, allAllowed, ended, closed, circuitFrom, undoFrom, stepFrom, startFrom, ampFrom, partFrom, layerFrom, gateLine, shapeOf, formOf}
+use Rattle.text.specs.Spelling.{sameBytes, digits, decimal, signedDecimal, bitDigits, numberAfter, numberOfBits, spelledSpot, spelledGate}
+use Rattle.text.specs.Reading.{begins}
+use Rattle.text.specs.Items.{valueFrom, afterDigits, frontBits, afterBits, colourOf, spotOf, cczOf, czOf, cnotOf, gateOf}
+use Rattle.lines.specs.Typed.{stringsOf, row}
+use Rattle.lines.specs.Spelling.{spelledGates, spelledBits, spelled, someBits, allSome, isAllowed, allAllowed, colourTwice, anyColourTwice, gatesIn}
+use Rattle.lines.specs.Readings.{gatesAfter, typedOf, shapeAs, readingOf}
 use Rattle.answers.specs.Answers.{bytesOf, infront}
-use Rattle.refusals.specs.Refusals.{orElse, refusedIf, isCircuit, works, lineGates, momentRefusal, within, inRange, allInRange, onItself, anyOnItself, outOfRange, notLong, wrongLength, operandRefusal, places, undoesMore, historyRefusal, formRefusal, refusalBy}
+use Rattle.refusals.specs.Refusals.{orElse, refusedIf, classNumber, isClass, works, momentRefusal, within, inRange, allInRange, onItself, anyOnItself, outOfRange, anyNotLong, operandRefusal, places, undoesMore, historyRefusal, rowRefusal, refusalBy}
 use Rattle.engine.specs.Engine.{freshEngine}
-use Rattle.engine.specs.Response.{noStrings, newCircuit, withGates, withoutLast, withNewStart, outputWith, opening, besideUnread, total, stepped, stepOf, termsOf, accepted, hasCircuit, isRunning, sumOpen, positionsOf, gatesOf as gatesOfInResponse, refusalOf, acceptedBy, turnBy, turnOf}
+use Rattle.engine.specs.Response.{noStrings, newCircuit, withGates, withoutLast, withNewStart, asNumbers, outputWith, opening, besideUnread, total, stepped, stepOf, withoutSum, termsOf, accepted, hasCircuit, circuitOf, openedOf, isRunning, refusalOf, turnBy, turnOf}
 use Rattle.engine.specs.Calls.{refusalNumber, hasLines, stored, answering, tooShort, skipped, response}
 use Rattle.framing.specs.Framing.{linesAfter, linesOf, clipped, pendingOf}
 use Rattle.session.specs.Session.{asText, laterLines, begun, answerTo, withResponse, withLine, withLines, sessionOf}
 use Rattle.session.specs.Worked.{typedLines, answerLines}
 
 pub worked-session : sessionOf (asText typedLines) .said ≡ asText answerLines
-unfolding _⊕_ _⊞_ dot bit sum sumBelow parity sgn bitOf odd highFirst the first second join put isPosition at isGate areGates term sameTerm empty toggled substituted pair applied appliedAll polynomial product parityAll value overPositions triples pairsBeside everyTerm among listing gateOfTerm gatesOf strings along coefficient gamma innerSum isNought amplitudeAfter share tallyBelow readoutAfter readoutCount digits decimal signedDecimal spelledSpot spelledGate begins readKeyword digitsFrom numberFrom readNumber colourFrom readColour bitsFrom oneOrMore readBits spacedNumber spacedBits colourTwice gateForm readCcz readSpot readCz readCnot readGate gatesFrom layerGates isAllowed allAllowed ended closed circuitFrom undoFrom stepFrom startFrom ampFrom partFrom layerFrom gateLine shapeOf formOf bytesOf infront orElse refusedIf isCircuit works lineGates momentRefusal within inRange allInRange onItself anyOnItself outOfRange notLong wrongLength operandRefusal places undoesMore historyRefusal formRefusal refusalBy freshEngine noStrings newCircuit withGates withoutLast withNewStart outputWith opening besideUnread total stepped stepOf termsOf accepted hasCircuit isRunning sumOpen positionsOf gatesOfInResponse refusalOf acceptedBy turnBy turnOf refusalNumber hasLines stored answering tooShort skipped response linesAfter linesOf clipped pendingOf asText laterLines begun answerTo withResponse withLine withLines sessionOf typedLines answerLines
+unfolding _⊕_ _⊞_ dot bit sum sumBelow parity sgn bitOf odd highFirst the first second join put isPosition at isGate areGates term sameTerm empty toggled substituted pair applied appliedAll polynomial product parityAll value overPositions triples pairsBeside everyTerm among listing gateOfTerm gatesOf strings along coefficient gamma innerSum isNought amplitudeAfter share tallyBelow readoutAfter readoutCount sameBytes digits decimal signedDecimal bitDigits numberAfter numberOfBits spelledSpot spelledGate begins valueFrom afterDigits frontBits afterBits colourOf spotOf cczOf czOf cnotOf gateOf stringsOf row spelledGates spelledBits spelled someBits allSome isAllowed allAllowed colourTwice anyColourTwice gatesIn gatesAfter typedOf shapeAs readingOf bytesOf infront orElse refusedIf classNumber isClass works momentRefusal within inRange allInRange onItself anyOnItself outOfRange anyNotLong operandRefusal places undoesMore historyRefusal rowRefusal refusalBy freshEngine noStrings newCircuit withGates withoutLast withNewStart asNumbers outputWith opening besideUnread total stepped stepOf withoutSum termsOf accepted hasCircuit circuitOf openedOf isRunning refusalOf turnBy turnOf refusalNumber hasLines stored answering tooShort skipped response linesAfter linesOf clipped pendingOf asText laterLines begun answerTo withResponse withLine withLines sessionOf typedLines answerLines
 worked-session = refl
