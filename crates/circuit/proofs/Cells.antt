@@ -10,7 +10,8 @@ use lib.Count.{ones}
 use lib.Dec.{eqb, ltb, eqb·suc-zero}
 use lib.ListN.{length, getD, length-append, length-map, List·getD-map}
 use borrow.Author.Tests.{ltb-true, lt-ltb, le-ltb}
-use Rattle.gf2.specs.Words.{bitOf, odd, bitAt, wordOf, tabulate}
+use Rattle.gf2.specs.Digits.{bitOf, odd}
+use Rattle.gf2.specs.Words.{bitAt, wordOf, tabulate}
 use Rattle.gf2.proofs.Tables.{getD-tabulate}
 use Rattle.gf2.proofs.WordBits.{bitAt-wordOf-lt, bitAt-pow, bitAt-and}
 use Rattle.circuit.specs.declared.Colour.the-variants.{Red, Blue, Green}

@@ -11,7 +11,8 @@ use lib.Count.{ones, onesIn, ones-cat}
 use lib.ListN.{length, getD, length-append}
 use lib.Pow.{pow-pos, split}
 use lib.Seq.{getD-append-seam}
-use Rattle.gf2.specs.Words.{bitOf, odd, bitAt}
+use Rattle.gf2.specs.Digits.{bitOf, odd}
+use Rattle.gf2.specs.Words.{bitAt}
 use Rattle.gf2.proofs.WordBits.{bitAt-mod}
 use Rattle.circuit.specs.Cells.{concatBelow, marked}
 

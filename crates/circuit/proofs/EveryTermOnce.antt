@@ -8,7 +8,7 @@ use native.Mathlib.Omega.{arith}
 use lib.Dec.{eqb, eqb·suc-zero}
 use borrow.Author.Tests.{eqb-true, eqb-false}
 use Rattle.gf2.specs.Strings.{_⊕_}
-use Rattle.gf2.specs.Words.{bitOf, odd}
+use Rattle.gf2.specs.Digits.{bitOf, odd}
 use Rattle.gf2.proofs.Bits.{and-ac, and-left-comm, ⊕-assoc, ⊕-false, false-⊕}
 use Rattle.gf2.proofs.Digits.{odd-add}
 use Rattle.circuit.specs.declared.Colour.{Colour}

@@ -12,7 +12,8 @@ use lib.Pow.{shl-exact}
 use lib.Seq.{getD-set-same, getD-set-other}
 use borrow.Author.Tests.{eqb-true, eqb-false, eq-eqb, ne-eqb, lt-ltb}
 use Rattle.gf2.specs.Strings.{_⊕_}
-use Rattle.gf2.specs.Words.{bitOf, odd, bitAt, toggledAt, wordOf}
+use Rattle.gf2.specs.Digits.{bitOf, odd}
+use Rattle.gf2.specs.Words.{bitAt, toggledAt, wordOf}
 use Rattle.gf2.proofs.Tables.{length-tabulate, getD-tabulate, tabulate-unique}
 use Rattle.gf2.proofs.WordBits.{bitAt-wordOf-lt, wordOf-bits, wordOf-cong, wordOf-xor, wordOf-none, wordOf-and, wordOf-one}
 use Rattle.circuit.specs.declared.Colour.the-variants.{Red, Blue, Green}

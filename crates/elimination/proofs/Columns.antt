@@ -9,7 +9,8 @@ use lib.Count.{ones, ones-step}
 use lib.Dec.{eqb}
 use lib.Pow.{pow-lt, pow-add}
 use borrow.Author.Tests.{eq-eqb, ne-eqb}
-use Rattle.gf2.specs.Words.{bitOf, odd, bitAt}
+use Rattle.gf2.specs.Digits.{bitOf, odd}
+use Rattle.gf2.specs.Words.{bitAt}
 use Rattle.gf2.proofs.WordBits.{bitAt-pow, bitAt-half}
 
 -- the low digit of an `or`

@@ -11,7 +11,8 @@ use lib.IntN.{pos, _*ℤ_}
 use lib.ListN.{length, getD, take, drop, replicate, length-drop, length-replicate, getD-replicate, List·getD-map}
 use lib.Seq.{ext-getD, length-take-le, getD-take, getD-drop, take-add}
 use Rattle.gf2.specs.Strings.{BitString, _⊕_, _⊞_}
-use Rattle.gf2.specs.Words.{bitOf, odd, bitAt, lowFirst}
+use Rattle.gf2.specs.Digits.{bitOf, odd}
+use Rattle.gf2.specs.Words.{bitAt, lowFirst}
 use Rattle.gf2.proofs.Bits.{⊕-false, ⊕-self}
 use Rattle.gf2.proofs.LowFirst.{lowFirst-xor, bit-lowFirst}
 use Rattle.gf2.proofs.WordBits.{bitAt-xor, bitAt-zero}

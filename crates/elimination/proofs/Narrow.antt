@@ -7,7 +7,8 @@ use lib.Bits.{bitXor, xor-lt}
 use lib.Dec.{eqb, ltb}
 use borrow.Author.Tests.{eqb-true, ltb-true, ltb-false}
 use Rattle.gf2.specs.Strings.{isZero}
-use Rattle.gf2.specs.Words.{bitOf, odd, bitAt, lowFirst}
+use Rattle.gf2.specs.Digits.{bitOf, odd}
+use Rattle.gf2.specs.Words.{bitAt, lowFirst}
 use Rattle.gf2.proofs.WordBits.{bitAt-past, bitAt-zero, bitAt-mod}
 use Rattle.gf2.proofs.ZeroStrings.{zero-of-digits, digit-of-zero}
 use Rattle.elimination.specs.Rows.{clear, place}

@@ -27,8 +27,8 @@ use Rattle.engine.specs.declared.Kind.the-variants as Kind
 use Rattle.engine.specs.declared.State.{State}
 use Rattle.engine.specs.declared.Sum.{Sum}
 use Rattle.engine.specs.Engine.{Circuit, Purpose, amplitude, readout, OpenSum, closed, running, present, SoundCircuit}
-use Rattle.engine.specs.Response.{Turn, total, stepped}
-use Rattle.engine.specs.State.{outputOf, tableFor, sumState, encodeSum, encodeLoaded}
+use Rattle.engine.specs.Response.{outputOf, Turn, total, stepped}
+use Rattle.engine.specs.State.{tableFor, sumState, encodeSum, encodeLoaded}
 use Rattle.engine.proofs.SumState.{positions-held, sum-held, worked-held, table-held, is-amplitude, is-readout}
 
 -- ---- numbers of slices
@@ -98,7 +98,7 @@ module _ (x : Sum) (m : ℕ) (o : OpenSum) (h : x ≡ encodeSum m (running o)) w
       ∙ ap (total m o) (sym (is-amplitude x m o h e))
 
   pub readout-total : o .worked ≡ 2 ^ m → x .kind ≡ Kind.Readout → Answer.Readout (x .count) (3 * m) ≡ total m o (o .purpose)
-  unfolding sumState total outputOf readoutCount
+  unfolding sumState total outputOf
   readout-total all e =
       ap (λ (y : Sum). Answer.Readout (y .count) (3 * m)) (as-readout e)
       ∙ ap (λ (w : ℕ). Answer.Readout (totalOf readoutTotal m o w) (3 * m)) all
@@ -205,7 +205,7 @@ module _ (s : State) (c : Circuit) (o : OpenSum) (l : Bool) (t : SoundCircuit c 
   pub whole-total :
       (n : ℕ) (x : Sum) (a : Answer) → n ≡ 2 ^ c .m → x ≡ encodeSum (c .m) (running (further o (n - s .sum .worked))) →
       ((p : OpenSum) → x ≡ encodeSum (s .m) (running p) → p .worked ≡ 2 ^ s .m → a ≡ total (s .m) p (p .purpose)) → a ≡ total (c .m) o (o .purpose)
-  unfolding total
+  unfolding total outputOf
   whole-total n x a count e given =
       subst (λ (m : ℕ). (p : OpenSum) → x ≡ encodeSum m (running p) → p .worked ≡ 2 ^ m → a ≡ total m p (p .purpose))
       (positions-held s c (running o) l h)

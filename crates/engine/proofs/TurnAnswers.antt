@@ -14,7 +14,7 @@ use Rattle.circuit.specs.declared.Colour.{Colour}
 use Rattle.circuit.specs.Sum.{Basis}
 use Rattle.circuit.specs.Polynomial.{Term, Polynomial, polynomial}
 use Rattle.circuit.specs.Listing.{overPositions, triples, pairsBeside, everyTerm, among, listing}
-use Rattle.slices.specs.Totals.{amplitudeAfter}
+use Rattle.slices.specs.Totals.{amplitudeAfter, readoutCount}
 use Rattle.slices.proofs.Bounds.{amplitudeAfter-bound, readoutCount-bound}
 use Rattle.lines.specs.Typed.{amp, part, Typed, circuit, gate, layer, undo, start, opens, step, drop, terms}
 use Rattle.lines.specs.Spelling.{Reading, typed, refused}
@@ -104,9 +104,9 @@ amplitude-most m f C s =
     three m = omega arith
 
 total-modest : (m : ℕ) (o : OpenSum) (p : Purpose) → m ≤ 16 → Modest (total m o p)
-unfolding total
+unfolding total readoutCount
 total-modest m o amplitude h = (sum-modest m _ h (amplitude-most m _ _ _), omega arith)
-total-modest m o readout h = (sum-modest m _ h (readoutCount-bound m _ _ _ _), omega arith)
+total-modest m o readout h = (sum-modest m _ h (readoutCount-bound m _ (o .colour) _ _), omega arith)
 
 -- ---- the answers
 

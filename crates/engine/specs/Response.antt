@@ -4,15 +4,17 @@ use mathlib.Core.List.{List, [], _∷_, _++_}
 use Prim.Native.Nat.{ℕ, zero, suc, _+_, _-_, _*_, _^_}
 use lib.Bits.{bitXor}
 use lib.Dec.{ltb}
+use lib.IntN.{ℤ}
 use lib.ListN.{length, take}
 use Rattle.gf2.specs.Strings.{BitString}
 use Rattle.circuit.specs.declared.Colour.{Colour}
 use Rattle.circuit.specs.declared.Gate.{Gate}
 use Rattle.circuit.specs.Colours.{join, first, second}
+use Rattle.circuit.specs.Sum.{Basis}
 use Rattle.circuit.specs.Polynomial.{polynomial}
 use Rattle.circuit.specs.Listing.{listing}
 use Rattle.slices.specs.Packing.{strings}
-use Rattle.slices.specs.Totals.{amplitudeAfter, readoutCount}
+use Rattle.slices.specs.Totals.{amplitudeAfter, readoutAfter}
 use Rattle.text.specs.Spelling.{numberOfBits}
 use Rattle.lines.specs.Typed.{amp, part, Typed, circuit, gate, layer, undo, start, opens, step, drop, terms}
 use Rattle.lines.specs.Spelling.{Reading, typed, refused}
@@ -76,15 +78,22 @@ besideUnread C x y = join C 0 x y
 unfoldable pub withoutSum : Circuit → Turn
 withoutSum c = record { after = present c closed; answer = Answer.Ok }
 
+-- The output string that a sum was opened for, as bit strings.
+unfoldable pub outputOf : ℕ → OpenSum → Basis
+outputOf m o = strings m (o .output .red) (o .output .blue) (o .output .green)
+
+-- "An open sum holds the number of slices worked and what exactly these add up to": after w slices, for the one purpose or the other.
+abbrev pub amplitudeAt : ℕ → OpenSum → ℕ → ℤ
+amplitudeAt m o w = amplitudeAfter m (polynomial (o .gates)) (o .colour) (outputOf m o) w
+
+abbrev pub countAt : ℕ → OpenSum → ℕ → ℕ
+countAt m o w =
+    readoutAfter m (polynomial (o .gates)) (o .colour) (first (o .colour) (outputOf m o)) (second (o .colour) (outputOf m o)) w
+
 -- "`(amp S n)` or `(part T n)` after the step that ends it, .. n the exponent"
 unfoldable pub total : ℕ → OpenSum → Purpose → Answer
-total m o amplitude =
-    Answer.Amplitude
-    (amplitudeAfter m (polynomial (o .gates)) (o .colour) (strings m (o .output .red) (o .output .blue) (o .output .green)) (2 ^ m)) (3 * m)
-total m o readout =
-    Answer.Readout
-    (readoutCount m (polynomial (o .gates)) (o .colour) (first (o .colour) (strings m (o .output .red) (o .output .blue) (o .output .green)))
-    (second (o .colour) (strings m (o .output .red) (o .output .blue) (o .output .green)))) (3 * m)
+total m o amplitude = Answer.Amplitude (amplitudeAt m o (2 ^ m)) (3 * m)
+total m o readout = Answer.Readout (countAt m o (2 ^ m)) (3 * m)
 
 -- "works through k more slices, or all that are left if fewer": L is 2^m less the slices worked, and the sum is closed at its end.
 unfoldable pub stepped : Circuit → OpenSum → ℕ → Turn

@@ -1,17 +1,14 @@
--- The state of an engine, every field of it, and the lent history beside it.
+-- How an engine stands in memory: every field of its state, and the lent history beside it.
 use mathlib.Core.Bool.{Bool}
 use mathlib.Core.List.{List, map}
 use mathlib.Core.Path.{_≡_}
 use Prim.Native.Nat.{ℕ, _≤_}
 use lib.IntN.{pos}
 use lib.ListN.{length, take, replicate}
-use Rattle.circuit.specs.Colours.{first, second}
-use Rattle.circuit.specs.Sum.{Basis}
 use Rattle.circuit.specs.Polynomial.{empty, polynomial}
 use Rattle.circuit.specs.Words.{wordsOf}
 use Rattle.circuit.specs.History.{codeOf}
-use Rattle.slices.specs.Packing.{strings, withOutput, tableOf}
-use Rattle.slices.specs.Totals.{amplitudeAfter, readoutAfter}
+use Rattle.slices.specs.Packing.{withOutput, tableOf}
 use Rattle.engine.specs.declared.Numbers.{Numbers}
 use Rattle.engine.specs.declared.Kind.{Kind}
 use Rattle.engine.specs.declared.Kind.the-variants as Kind
@@ -19,14 +16,10 @@ use Rattle.engine.specs.declared.Sum.{Sum}
 use Rattle.engine.specs.declared.State.{State}
 use Rattle.engine.specs.Engine.{Strings, Purpose, amplitude, readout, OpenSum, Opened, closed, running, Loaded, absent, present, Engine, Sound}
 use Rattle.refusals.specs.Refusals.{places}
-use Rattle.engine.specs.Response.{noStrings, gatesOf}
+use Rattle.engine.specs.Response.{noStrings, outputOf, amplitudeAt, countAt, gatesOf}
 
 unfoldable pub numbersOf : Strings → Numbers
 numbersOf s = record { red = s .red; blue = s .blue; green = s .green }
-
--- The output string that a sum was opened for, as bit strings.
-unfoldable pub outputOf : ℕ → OpenSum → Basis
-outputOf m o = strings m (o .output .red) (o .output .blue) (o .output .green)
 
 -- The table that a sum's slices are read from, made when it was opened.
 unfoldable pub tableFor : ℕ → OpenSum → List ℕ
@@ -42,7 +35,7 @@ sumState m o amplitude =
     record {
       kind = Kind.Amplitude;
       worked = o .worked;
-      amplitude = amplitudeAfter m (polynomial (o .gates)) (o .colour) (outputOf m o) (o .worked);
+      amplitude = amplitudeAt m o (o .worked);
       count = 0;
       table = tableFor m o;
     }
@@ -51,8 +44,7 @@ sumState m o readout =
       kind = Kind.Readout;
       worked = o .worked;
       amplitude = pos 0;
-      count =
-          readoutAfter m (polynomial (o .gates)) (o .colour) (first (o .colour) (outputOf m o)) (second (o .colour) (outputOf m o)) (o .worked);
+      count = countAt m o (o .worked);
       table = tableFor m o;
     }
 

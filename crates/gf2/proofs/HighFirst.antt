@@ -11,7 +11,8 @@ use lib.Pow.{pow-pos}
 use lib.IntN.{ℤ, _+ℤ_, +ℤ-idl}
 use Rattle.gf2.specs.Strings.{BitString, _⊞_, bit}
 use Rattle.gf2.specs.Sums.{sum, sumBelow}
-use Rattle.gf2.specs.Words.{bitOf, odd, bitAt, highFirst}
+use Rattle.gf2.specs.Digits.{bitOf, odd, highFirst}
+use Rattle.gf2.specs.Words.{bitAt}
 use Rattle.gf2.proofs.Digits.{odd-xor, odd-even}
 use Rattle.gf2.proofs.Below.{sumBelow-cong, sumBelow-add}
 

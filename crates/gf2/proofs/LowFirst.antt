@@ -12,7 +12,8 @@ use lib.Count as Count
 use lib.IntN.{ℤ, _+ℤ_, +ℤ-idl}
 use Rattle.gf2.specs.Strings.{BitString, _⊕_, _⊞_, dot, bit}
 use Rattle.gf2.specs.Sums.{sum, sumBelow}
-use Rattle.gf2.specs.Words.{bitOf, odd, lowFirst}
+use Rattle.gf2.specs.Digits.{bitOf, odd}
+use Rattle.gf2.specs.Words.{lowFirst}
 use Rattle.gf2.proofs.Digits.{odd-xor, odd-add, odd-zero, odd-and, odd-mod, xor-half, and-half}
 use Rattle.gf2.proofs.Below.{sumBelow-cong, sumBelow-double}
 

@@ -11,7 +11,8 @@ use lib.Arith.{lt-one}
 use lib.Pow.{pow-pos, pow-lt, pow-mono, split, field, mod-mod-pow, shl-exact}
 use borrow.Author.Tests.{eqb-true, eqb-false, ltb-true, ltb-false, lt-ltb, le-ltb}
 use Rattle.gf2.specs.Strings.{_⊕_}
-use Rattle.gf2.specs.Words.{bitOf, odd, bitAt, wordOf}
+use Rattle.gf2.specs.Digits.{bitOf, odd}
+use Rattle.gf2.specs.Words.{bitAt, wordOf}
 use Rattle.gf2.proofs.Bits.{⊕-false, false-⊕}
 use Rattle.gf2.proofs.Digits.{odd-xor, odd-and}
 

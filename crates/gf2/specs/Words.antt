@@ -1,19 +1,11 @@
--- Bits of a word, and the word as a bit string in either order.
-use mathlib.Core.Bool.{Bool, true, false, cond}
+-- Bits of a word, and the word as a bit string, the lowest digit first.
+use mathlib.Core.Bool.{Bool, cond}
 use mathlib.Core.List.{List, [], _∷_, _++_}
-use Prim.Native.Nat.{ℕ, zero, suc, _+_, _/_, _%_, _^_}
+use Prim.Native.Nat.{ℕ, zero, suc, _+_, _/_, _^_}
 use lib.Bits.{bitXor}
 use lib.Dec.{ltb}
 use Rattle.gf2.specs.Strings.{BitString}
-
--- A digit as a bit.
-unfoldable pub bitOf : ℕ → Bool
-bitOf zero = false
-bitOf (suc n) = true
-
--- Is the number odd?
-unfoldable pub odd : ℕ → Bool
-odd n = bitOf (n % 2)
+use Rattle.gf2.specs.Digits.{odd}
 
 -- The bit of a word that counts 2 ^ k.
 unfoldable pub bitAt : ℕ → ℕ → Bool
@@ -22,11 +14,6 @@ bitAt w k = odd (w / 2 ^ k)
 -- That bit of a word of the given width turned over; a word without it is left as it is.
 unfoldable pub toggledAt : ℕ → ℕ → ℕ → ℕ
 toggledAt width w k = cond (ltb k width) (bitXor w (2 ^ k)) w
-
--- The m low digits of a word, the highest first: position 1 is the highest digit.
-unfoldable pub highFirst : ℕ → ℕ → BitString
-highFirst zero w = []
-highFirst (suc m) w = odd (w / 2 ^ m) ∷ highFirst m w
 
 -- The m low digits of a word, the lowest first: place j is the bit that counts 2 ^ j.
 unfoldable pub lowFirst : ℕ → ℕ → BitString

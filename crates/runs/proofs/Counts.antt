@@ -8,7 +8,7 @@ use lib.Bits.{xor-zero-r}
 use lib.IntN.{pos, _*ℤ_}
 use lib.ListN.{length}
 use Rattle.gf2.specs.Strings.{BitString, _⊞_}
-use Rattle.gf2.specs.Words.{highFirst}
+use Rattle.gf2.specs.Digits.{highFirst}
 use Rattle.gf2.proofs.HighFirst.{highFirst-xor, length-highFirst}
 use Rattle.gf2.proofs.Parseval.{square as squared}
 use Rattle.circuit.specs.declared.Colour.{Colour}
@@ -24,8 +24,7 @@ use Rattle.slices.proofs.Rank.{tally-cong}
 use Rattle.slices.proofs.Readout.{readout-squares, readout-total}
 use Rattle.slices.proofs.Amplitude.{amplitude-is-signedSum}
 use Rattle.engine.specs.Engine.{Strings, Circuit, OpenSum}
-use Rattle.engine.specs.Response.{outputWith, besideUnread}
-use Rattle.engine.specs.State.{outputOf}
+use Rattle.engine.specs.Response.{outputOf, outputWith, besideUnread}
 use Rattle.runs.specs.Runs.{Entered, holds, zeros, allZeros, Part, last, square, Exact}
 use Rattle.runs.proofs.Following.{enteredOf, holds-one, openedFor, partOf, PartNoted}
 

@@ -10,8 +10,7 @@ use Rattle.lines.specs.Spelling.{Reading}
 use Rattle.answers.specs.declared.Answer.{Answer}
 use Rattle.answers.specs.declared.Answer.the-variants as Answer
 use Rattle.engine.specs.Engine.{Circuit, Purpose, amplitude, readout, OpenSum, running, Loaded, present}
-use Rattle.engine.specs.Response.{total}
-use Rattle.engine.specs.State.{outputOf}
+use Rattle.engine.specs.Response.{outputOf, total}
 use Rattle.engine.proofs.Views.{View, refuses, creates, adds, takesBack, starts, opensAmplitude, opensReadout, worksOn, finishes, drops, lists}
 
 pub data ReadoutEnd (t n : ℕ) : Loaded → Type 0 where

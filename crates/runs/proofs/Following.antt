@@ -6,7 +6,7 @@ use mathlib.Core.List.{List, [], _∷_}
 use Prim.Native.Nat.{ℕ, suc, _+_}
 use lib.ListN.{length, getD}
 use Rattle.gf2.specs.Strings.{BitString}
-use Rattle.gf2.specs.Words.{highFirst}
+use Rattle.gf2.specs.Digits.{highFirst}
 use Rattle.circuit.specs.Sum.{Basis}
 use Rattle.slices.specs.Packing.{strings}
 use Rattle.text.specs.Spelling.{sameBytes, numberOfBits}

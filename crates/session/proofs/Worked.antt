@@ -2,7 +2,7 @@
 use mathlib.Core.Path.{_≡_, refl}
 use Rattle.gf2.specs.Strings.{_⊕_, _⊞_, dot, bit}
 use Rattle.gf2.specs.Sums.{sum, sumBelow, parity, sgn}
-use Rattle.gf2.specs.Words.{bitOf, odd, highFirst}
+use Rattle.gf2.specs.Digits.{bitOf, odd, highFirst}
 use Rattle.circuit.specs.Colours.{the, first, second, join, put}
 use Rattle.circuit.specs.Sum.{isPosition, at, isGate, areGates}
 use Rattle.circuit.specs.Polynomial.{term, sameTerm, empty, toggled, substituted, pair, applied, appliedAll, polynomial, product, parityAll, value}

@@ -10,7 +10,8 @@ use lib.Dec.{eqb}
 use lib.Pow.{mod-pow-add}
 use borrow.Author.Tests.{eqb-true, eqb-false, eq-eqb, ne-eqb}
 use Rattle.gf2.specs.Strings.{isZero}
-use Rattle.gf2.specs.Words.{bitOf, odd, bitAt, lowFirst}
+use Rattle.gf2.specs.Digits.{bitOf, odd}
+use Rattle.gf2.specs.Words.{bitAt, lowFirst}
 use Rattle.gf2.proofs.WordBits.{odd-tested}
 
 pub bit-set : (w k : ℕ) → bitAnd (w / 2 ^ k) 1 ≡ 1 → bitAt w k ≡ true

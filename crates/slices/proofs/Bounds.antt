@@ -8,7 +8,7 @@ use lib.Pow.{pow-add, pow-mono}
 use lib.IntN.{ℤ, natAbs, _*ℤ_}
 use Rattle.gf2.specs.Strings.{BitString, _⊕_, dot}
 use Rattle.gf2.specs.Sums.{sum, sgn}
-use Rattle.gf2.specs.Words.{highFirst}
+use Rattle.gf2.specs.Digits.{highFirst}
 use Rattle.gf2.proofs.Bounds.{sgn-abs, neg-abs, sum-bound, sumBelow-bound}
 use Rattle.gf2.proofs.Integers.{one-*ℤ, negone-*ℤ}
 use Rattle.circuit.specs.declared.Colour.{Colour}

@@ -3,7 +3,7 @@ use mathlib.Core.Path.{_≡_, refl}
 use mathlib.Core.List.{map}
 use Rattle.gf2.specs.Strings.{_⊕_, dot, bit, flip, isZero}
 use Rattle.gf2.specs.Sums.{sum, parity, sgn}
-use Rattle.gf2.specs.Words.{bitOf, odd, highFirst}
+use Rattle.gf2.specs.Digits.{bitOf, odd, highFirst}
 use Rattle.circuit.specs.Colours.{the, first, second, join, put}
 use Rattle.circuit.specs.Sum.{at, turned, replaced, turnsSign, leaves, carry, carryAll, unsigned, sumAll, dots, counted, signedSum}
 use Rattle.circuit.specs.Polynomial.{sameTerm, toggled, term, applied, appliedAll, empty, polynomial, parityAll, product, value}

@@ -9,7 +9,8 @@ use lib.Dec.{eqb, ltb}
 use lib.ListN.{getD, set}
 use borrow.Author.Tests.{ltb-false, le-ltb}
 use Rattle.gf2.specs.Strings.{BitString, _⊕_, bit}
-use Rattle.gf2.specs.Words.{bitAt, toggledAt, highFirst}
+use Rattle.gf2.specs.Digits.{highFirst}
+use Rattle.gf2.specs.Words.{bitAt, toggledAt}
 use Rattle.gf2.proofs.Bits.{⊕-assoc, ⊕-false, and-ac, and-⊕-r}
 use Rattle.gf2.proofs.HighFirst.{length-highFirst, bit-highFirst}
 use Rattle.gf2.proofs.WordBits.{wordOf-cong, ltb-next}

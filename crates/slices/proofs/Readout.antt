@@ -11,7 +11,7 @@ use lib.Pow.{pow-pos, pow-add}
 use lib.IntN.{ℤ, pos, natAbs, _+ℤ_, _*ℤ_, *ℤ-zero, pos-+ℤ-pos}
 use Rattle.gf2.specs.Strings.{BitString, _⊕_, dot}
 use Rattle.gf2.specs.Sums.{sum, sumBelow, sgn}
-use Rattle.gf2.specs.Words.{highFirst}
+use Rattle.gf2.specs.Digits.{highFirst}
 use Rattle.gf2.proofs.Integers.{ring, *ℤ-assoc, one-*ℤ, negone-*ℤ}
 use Rattle.gf2.proofs.Bits.{sgn-⊕}
 use Rattle.gf2.proofs.Sums.{sum-cong, sum-ext, sum-mul, sum-const, sum-swap}

@@ -13,7 +13,8 @@ use lib.Pow.{pow-pos, pow-add}
 use borrow.Author.Tests.{le-ltb}
 use Rattle.gf2.specs.Strings.{BitString, dot, isZero}
 use Rattle.gf2.specs.Sums.{sgn}
-use Rattle.gf2.specs.Words.{bitAt, highFirst}
+use Rattle.gf2.specs.Digits.{highFirst}
+use Rattle.gf2.specs.Words.{bitAt}
 use Rattle.gf2.proofs.Integers.{one-*ℤ, negone-*ℤ, *ℤ-left-comm}
 use Rattle.gf2.proofs.Strings.{dot-zero}
 use Rattle.gf2.proofs.HighFirst.{length-highFirst}

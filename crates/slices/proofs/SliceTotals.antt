@@ -9,7 +9,7 @@ use lib.IntN.{ℤ, natAbs, _+ℤ_}
 use lib.Pow.{pow-mono, pow-add}
 use borrow.Author.Tests.{le-leb}
 use Rattle.gf2.specs.Strings.{BitString}
-use Rattle.gf2.specs.Words.{highFirst}
+use Rattle.gf2.specs.Digits.{highFirst}
 use Rattle.gf2.proofs.Below.{sumBelow-cong, sumBelow-add}
 use Rattle.circuit.specs.declared.Colour.{Colour}
 use Rattle.circuit.specs.declared.Gate.{Gate}

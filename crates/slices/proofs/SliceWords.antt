@@ -11,7 +11,8 @@ use lib.ListN.{getD, replicate}
 use lib.Pow.{pow-mono}
 use Rattle.gf2.specs.Strings.{BitString, _⊕_, bit}
 use Rattle.gf2.specs.Sums.{parity}
-use Rattle.gf2.specs.Words.{bitAt, highFirst, tabulate, wordOf}
+use Rattle.gf2.specs.Digits.{highFirst}
+use Rattle.gf2.specs.Words.{bitAt, tabulate, wordOf}
 use Rattle.gf2.proofs.Bits.{⊕-false, false-⊕, ⊕-comm, ⊕-assoc, and-⊕}
 use Rattle.gf2.proofs.Parities.{parity-cong, parity-ext, parity-⊕}
 use Rattle.gf2.proofs.Tables.{tabulate-cong}

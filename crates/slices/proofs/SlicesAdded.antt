@@ -10,7 +10,8 @@ use lib.ListN.{getD}
 use lib.Pow.{pow-mono}
 use borrow.Author.Tests.{ltb-false}
 use Rattle.gf2.specs.Sums.{sumBelow, sgn}
-use Rattle.gf2.specs.Words.{bitAt, highFirst}
+use Rattle.gf2.specs.Digits.{highFirst}
+use Rattle.gf2.specs.Words.{bitAt}
 use Rattle.gf2.proofs.Bounds.{add-abs}
 use Rattle.circuit.specs.declared.Colour.{Colour}
 use Rattle.circuit.specs.Polynomial.{Polynomial}

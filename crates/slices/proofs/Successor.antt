@@ -10,7 +10,8 @@ use lib.Dec.{leb, leb·zero, leb·suc-zero, leb·suc-suc}
 use borrow.Author.Tests.{leb-true, leb-false, le-leb}
 use Rattle.gf2.specs.Strings.{_⊕_, bit}
 use Rattle.gf2.specs.Sums.{parity}
-use Rattle.gf2.specs.Words.{bitOf, odd, bitAt, highFirst}
+use Rattle.gf2.specs.Digits.{bitOf, odd, highFirst}
+use Rattle.gf2.specs.Words.{bitAt}
 use Rattle.gf2.proofs.Bits.{⊕-false, ⊕-comm}
 use Rattle.gf2.proofs.Digits.{odd-add}
 use Rattle.gf2.proofs.Parities.{parity-cong, parity-ext}

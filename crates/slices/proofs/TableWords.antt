@@ -13,7 +13,8 @@ use lib.Pow.{high, low, shl-exact, shr-shr}
 use lib.Seq.{getD-set-same, getD-set-other}
 use borrow.Author.Tests.{eqb-true, eqb-false, lt-ltb}
 use Rattle.gf2.specs.Strings.{_⊕_}
-use Rattle.gf2.specs.Words.{bitOf, odd, bitAt, wordOf, tabulate}
+use Rattle.gf2.specs.Digits.{bitOf, odd}
+use Rattle.gf2.specs.Words.{bitAt, wordOf, tabulate}
 use Rattle.gf2.proofs.Tables.{length-tabulate, getD-tabulate, tabulate-cong, tabulate-unique}
 use Rattle.gf2.proofs.WordBits.{bitAt-wordOf-lt, wordOf-lt, wordOf-cong, wordOf-bits, wordOf-xor, bitAt-half, bitAt-mod}
 use Rattle.circuit.specs.declared.Colour.{Colour}

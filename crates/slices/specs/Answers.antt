@@ -7,7 +7,8 @@ use lib.Dec.{ltb}
 use lib.IntN.{pos, _*ℤ_}
 use Rattle.gf2.specs.Strings.{BitString, isZero}
 use Rattle.gf2.specs.Sums.{sgn}
-use Rattle.gf2.specs.Words.{bitAt, highFirst, lowFirst}
+use Rattle.gf2.specs.Digits.{highFirst}
+use Rattle.gf2.specs.Words.{bitAt, lowFirst}
 use Rattle.circuit.specs.declared.Colour.{Colour}
 use Rattle.circuit.specs.Colours.{first, second}
 use Rattle.circuit.specs.Sum.{Basis}

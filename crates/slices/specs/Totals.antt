@@ -5,7 +5,7 @@ use lib.Dec.{leb}
 use lib.IntN.{ℤ, pos, negsuc, natAbs, _*ℤ_}
 use Rattle.gf2.specs.Strings.{BitString, _⊞_, dot}
 use Rattle.gf2.specs.Sums.{sumBelow, sgn}
-use Rattle.gf2.specs.Words.{highFirst}
+use Rattle.gf2.specs.Digits.{highFirst}
 use Rattle.circuit.specs.declared.Colour.{Colour}
 use Rattle.circuit.specs.Colours.{the, first, second}
 use Rattle.circuit.specs.Sum.{Basis}

@@ -3,7 +3,7 @@ ghost use mathlib.Core.Bool.{cond};
 ghost use mathlib.Core.Path.{_≡_};
 ghost use lib.Dec.{leb};
 ghost use Prim.Native.Nat.{_+_, _*_, _≤_, _<_};
-ghost use Rattle.gf2.specs.Words.{highFirst};
+ghost use Rattle.gf2.specs.Digits.{highFirst};
 ghost use Rattle.circuit.specs.Colours.{join};
 ghost use Rattle.circuit.specs.Polynomial.{Polynomial};
 ghost use Rattle.circuit.specs.Words.{wordsOf};

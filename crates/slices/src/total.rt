@@ -4,7 +4,7 @@ ghost use mathlib.Core.List.{List};
 ghost use mathlib.Core.Path.{_≡_};
 ghost use Prim.Native.Nat.{ℕ, _+_, _^_, _≤_};
 ghost use lib.IntN.{natAbs, _+ℤ_};
-ghost use Rattle.gf2.specs.Words.{highFirst};
+ghost use Rattle.gf2.specs.Digits.{highFirst};
 ghost use Rattle.circuit.specs.declared.Colour.{Colour};
 ghost use Rattle.circuit.specs.declared.Gate.{Gate};
 ghost use Rattle.circuit.specs.Colours.{first, second};

@@ -8,7 +8,7 @@ use native.Mathlib.Omega.{arith}
 use lib.ListN.{length}
 use lib.Pow.{pow-pos, pow-mono}
 use Rattle.gf2.specs.Strings.{BitString}
-use Rattle.gf2.specs.Words.{bitOf, odd, highFirst}
+use Rattle.gf2.specs.Digits.{bitOf, odd, highFirst}
 use Rattle.gf2.proofs.HighFirst.{highFirst-shift}
 use Rattle.text.specs.Spelling.{numberAfter, numberOfBits}
 use Rattle.text.specs.Reading.{heldBits}

@@ -7,7 +7,7 @@ use Prim.Native.Nat.{_+_, _-_, _≤_}
 use native.Mathlib.Omega.{arith}
 use lib.ListN.{length, length-set}
 use Rattle.gf2.specs.Strings.{BitString, bit}
-use Rattle.gf2.specs.Words.{highFirst}
+use Rattle.gf2.specs.Digits.{highFirst}
 use Rattle.circuit.specs.Polynomial.{Polynomial}
 use Rattle.circuit.specs.Words.{wordsOf}
 use Rattle.slices.proofs.OutputWords.{addedBelow, position-bit, words-begun, words-next, words-passed, words-ended}

@@ -1,6 +1,6 @@
 -- The strings are added one after the other, green first.
 use borrow.Author.Tests.{lt-leb, le-leb}
-use Rattle.gf2.specs.Words.{highFirst}
+use Rattle.gf2.specs.Digits.{highFirst}
 use Rattle.circuit.specs.declared.Colour.the-variants.{Blue, Green}
 use Rattle.slices.specs.Packing.{added, withOutput, strings}
 use Rattle.slices.proofs.output.with_output.Statement.{statement}
