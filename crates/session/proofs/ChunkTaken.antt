@@ -16,7 +16,8 @@ use Rattle.framing.proofs.Clipped.{pending-joined}
 use Rattle.framing.proofs.LinesCut.{first-line, no-line-yet}
 use Rattle.session.specs.declared.Session.{Session}
 use Rattle.session.specs.declared.Reading.{Reading}
-use Rattle.session.specs.Session.{asText, Progress, begun, answerTo, withResponse, withLine, withLines, sessionOf, At, Follows}
+use Rattle.session.specs.Session.{asText, Progress, begun, answerTo, withResponse, withLine, withLines, sessionOf}
+use Rattle.session.specs.Program.{At, Follows}
 
 -- ---- lines in turn
 
@@ -64,7 +65,7 @@ module _ (input chunk : List ℕ) (from : ℕ) (s : Session) (pending : Pending)
   unfolding scanned lineNow
   line-kept = rw (is, a .kept) (pending-joined (a .begun-line) passed)
 
-  pub chunk-ended : f .complete ≡ false → Follows (input ++ chunk) (record { session = s; pending = f .pending; more = true }) history out
+  pub chunk-ended : {left : ℕ} → f .complete ≡ false → Follows (input ++ chunk) (record { session = s; pending = f .pending; more = true; left = left }) history out
   unfolding scanned lineNow
   chunk-ended none =
       let feedless : hasFeed (drop from chunk) ≡ false = rw is at none in

@@ -10,7 +10,8 @@ use borrow.Author.Tests.{ltb-true, lt-ltb}
 use Rattle.framing.specs.Framing.{fitting, placed, lineFits, LinePut}
 use Rattle.framing.proofs.Places.{fits-whole}
 use Rattle.session.specs.declared.Waiting.{Waiting}
-use Rattle.session.specs.Session.{asText, Waits}
+use Rattle.session.specs.Session.{asText}
+use Rattle.session.specs.Program.{Waits}
 
 pub asText-append : (a b : List (List ℕ)) → asText (a ++ b) ≡ asText a ++ asText b
 unfolding asText

@@ -14,7 +14,7 @@ same-length-2 : tie.Need-same-length-2
 same-length-2 c = search needs
 
 returns : tie.Need-returns
-returns c = λ input f. input-ended input (c .before .before .before .before .before .before .before .before .before .args .reading) _ _ f (c .before .before .before .before .take-pending .ensures)
+returns c = let taken = c .before .before .before .before .take-pending in (λ input f. input-ended input _ _ _ f (taken .ensures .0), taken .ensures .1)
 
 pub take-last-spec : {M : Type 1} → statement M
 take-last-spec = tie.close (tie.spec take-pending-requires same-length same-length-2 returns)

@@ -1,0 +1,91 @@
+-- What the program holds of a session between its calls of the system. Left to the code and the tests: that the one `read` and the one `write` are called where the code calls them,
+-- and that they move the bytes that they report. No contract of theirs tells which bytes they move.
+use mathlib.Core.Bool.{Bool, true, false, _&&_}
+use mathlib.Core.List.{List, [], _∷_, _++_, flatten}
+use mathlib.Core.Path.{_≡_}
+use Prim.Native.Nat.{ℕ, _+_, _≤_}
+use lib.IntN.{ℤ}
+use lib.ListN.{length, take}
+use Rattle.io.specs.Counts.{clamped}
+use Rattle.engine.specs.State.{Holds}
+use Rattle.framing.specs.Framing.{linesAfter, linesOf, pendingOf}
+use Rattle.session.specs.declared.Waiting.{Waiting}
+use Rattle.session.specs.declared.Session.{Session}
+use Rattle.session.specs.declared.Reading.{Reading}
+use Rattle.session.specs.Session.{Progress, begun, withLines, sessionOf}
+
+-- ---- where a session stands
+
+-- What waits in the output buffer is the end of what was said; the part before it was handed to `write`.
+pub record Waits (said out : List ℕ) (w : Waiting) : Type 0 where
+  pub written : List ℕ
+  pub fits : w .len ≤ length out
+  pub is : written ++ take (w .len) out ≡ said
+
+-- A write that failed is not forgotten.
+abbrev pub FailureKept : Waiting → Waiting → Type 0
+FailureKept w w' = w .sound ≡ false → w' .sound ≡ false
+
+-- The state, the history and the output buffer at some point of a session.
+pub record At (p : Progress) (s : Session) (history out : List ℕ) : Type 0 where
+  pub held : Holds (p .engine) (s .state) history
+  pub history-is : history ≡ p .history
+  pub size : length out ≡ 4096
+  pub waits : Waits (p .said) out (s .waiting)
+
+-- After some bytes of the input: the lines that a line feed has ended went to the engine, and the bytes behind them are kept.
+pub record Follows (input : List ℕ) (r : Reading) (history out : List ℕ) : Type 0 where
+  pub lines : List (List ℕ)
+  pub begun-line : List ℕ
+  pub cut : (rest : List ℕ) → linesOf (input ++ rest) ≡ lines ++ linesAfter begun-line rest
+  pub kept : r .pending ≡ pendingOf begun-line
+  pub progress : At (withLines begun lines) (r .session) history out
+
+-- ---- a turn
+
+-- What a read call delivered that answered `got`: so many bytes at the front of the chunk, and none at the input's end or where it failed.
+unfoldable pub delivered : ℤ → List ℕ → List ℕ
+delivered got chunk = take (clamped got (length chunk)) chunk
+
+-- What is made of a read. Nothing delivered: the input has ended, and all its lines were taken, a last one without line feed too. Anything
+-- delivered: the input is longer by it, and one read fewer is left.
+pub record Received (input : List ℕ) (r : Reading) (chunk : List ℕ) (got : ℤ) (r' : Reading) (history out : List ℕ) : Type 0 where
+  pub ended : length (delivered got chunk) ≡ 0 → (r' .more ≡ false) × (r' .left ≡ r .left) × At (sessionOf input) (r' .session) history out
+  pub goes : 1 ≤ length (delivered got chunk)
+      → (r' .more ≡ true) × (r' .left + 1 ≡ r .left) × Follows (input ++ delivered got chunk) r' history out
+
+-- What is made of a write's answer: nothing waits, and the session goes on only if the write went through.
+pub record AfterWrite (r : Reading) (written : Bool) (r' : Reading) : Type 0 where
+  pub state : r' .session .state ≡ r .session .state
+  pub nothing : r' .session .waiting .len ≡ 0
+  pub sound : r' .session .waiting .sound ≡ written
+  pub pending : r' .pending ≡ r .pending
+  pub more : r' .more ≡ (r .more && written)
+  pub left : r' .left ≡ r .left
+
+-- A turn: what was read is taken, and nothing waits any more. Free is only `got`, what the read call answered.
+pub record Turned (input : List ℕ) (r : Reading) (chunk : List ℕ) (r' : Reading) (history out : List ℕ) : Type 0 where
+  pub got : ℤ
+  pub nothing : r' .session .waiting .len ≡ 0
+  pub failed : r' .session .waiting .sound ≡ false → r' .more ≡ false
+  pub ended : length (delivered got chunk) ≡ 0 → (r' .more ≡ false) × (r' .left ≡ r .left) × At (sessionOf input) (r' .session) history out
+  pub goes : 1 ≤ length (delivered got chunk)
+      → (r' .session .waiting .sound ≡ true → r' .more ≡ true) × (r' .left + 1 ≡ r .left) × Follows (input ++ delivered got chunk) r' history out
+
+-- ---- a run
+
+-- Every read delivered something.
+abbrev pub EachSome : List (List ℕ) → Type 0
+EachSome [] = Unit {0}
+EachSome (d ∷ ds) = (1 ≤ length d) × EachSome ds
+
+-- After any number of turns. Free is only `reads`, what the read calls delivered one after the other; together they are the input. The
+-- program stops with the session of all that was read, unless a write failed.
+pub record Ran (r : Reading) (history out : List ℕ) : Type 0 where
+  pub reads : List (List ℕ)
+  pub some : EachSome reads
+  pub counted : length reads + r .left ≡ 18446744073709551615
+  pub nothing : r .session .waiting .len ≡ 0
+  pub failed : r .session .waiting .sound ≡ false → r .more ≡ false
+  pub ended : r .more ≡ false → r .session .waiting .sound ≡ true → At (sessionOf (flatten reads)) (r .session) history out
+  pub goes : r .more ≡ true → Follows (flatten reads) r history out
