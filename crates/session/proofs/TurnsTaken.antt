@@ -9,16 +9,13 @@ use lib.ListN.{length, take, replicate, length-append}
 use native.Mathlib.Omega.{arith}
 use borrow.Author.Tests.{eqb-true, eqb-false}
 use Rattle.io.specs.Counts.{Counts, clamped}
-use Rattle.engine.specs.declared.State.{State}
-use Rattle.engine.specs.Engine.{freshEngine}
-use Rattle.engine.specs.State.{encode}
 use Rattle.engine.proofs.Keeping.{fresh-held}
-use Rattle.framing.specs.declared.Pending.{Pending}
-use Rattle.framing.specs.Framing.{linesOf, pendingOf}
+use Rattle.framing.specs.Framing.{linesOf}
+use Rattle.session.specs.declared.Waiting.{Waiting}
 use Rattle.session.specs.declared.Session.{Session}
 use Rattle.session.specs.declared.Reading.{Reading}
 use Rattle.session.specs.Session.{Progress, begun, withLines, sessionOf}
-use Rattle.session.specs.Program.{At, Follows, delivered, Received, AfterWrite, Turned, EachSome, Ran}
+use Rattle.session.specs.Program.{At, Follows, delivered, Received, Flushed, Turned, firstReading, EachSome, Ran}
 use Rattle.session.proofs.WhatWaits.{waits-nothing}
 
 -- ---- what was read
@@ -47,29 +44,31 @@ still-at : {p : Progress} {s s' : Session} {history out : List ℕ} → At p s h
 still-at {s' = s'} at same none =
     record { held = rw same (at .held); history-is = at .history-is; size = at .size; waits = waits-nothing (s' .waiting) (at .waits) none }
 
-module _ {input : List ℕ} {r r₁ r' : Reading} {chunk history out : List ℕ} {got : ℤ} {written : Bool} where
-  pub turn-taken : Received input r chunk got r₁ history out → AfterWrite r₁ written r' → Turned input r chunk r' history out
-  turn-taken taken after =
+module _ {input : List ℕ} {r r₁ r' : Reading} {chunk history out : List ℕ} {got : ℤ} {w : Waiting} where
+  pub turn-taken : Received input r chunk got r₁ history out → w .len ≡ 0 → Flushed r₁ w r' → Turned input r chunk r' history out
+  turn-taken taken empty after =
+      let nothing : r' .session .waiting .len ≡ 0 = ap (λ (v : Waiting). v .len) (after .waiting) ∙ empty in
+      let sound : w .sound ≡ r' .session .waiting .sound = ap (λ (v : Waiting). v .sound) (sym (after .waiting)) in
       record {
         got = got;
-        nothing = after .nothing;
-        failed = λ failed. after .more ∙ ap (λ (b : Bool). r₁ .more && b) (sym (after .sound) ∙ failed) ∙ and-false (r₁ .more);
+        nothing = nothing;
+        failed = λ failed. after .more ∙ ap (λ (b : Bool). r₁ .more && b) (sound ∙ failed) ∙ and-false (r₁ .more);
         ended = λ none.
             let end = taken .ended none in (
-              after .more ∙ ap (λ (b : Bool). b && written) (end .0),
+              after .more ∙ ap (λ (b : Bool). b && w .sound) (end .0),
               after .left ∙ end .1,
-              still-at (end .2) (after .state) (after .nothing),
+              still-at (end .2) (after .state) nothing,
             );
         goes = λ some.
             let on = taken .goes some in (
-              λ sound. after .more ∙ ap₂ _&&_ (on .0) (sym (after .sound) ∙ sound),
+              λ went. after .more ∙ ap₂ _&&_ (on .0) (sound ∙ went),
               ap (λ (n : ℕ). n + 1) (after .left) ∙ on .1,
               record {
                 lines = on .2 .lines;
                 begun-line = on .2 .begun-line;
                 cut = on .2 .cut;
                 kept = after .pending ∙ on .2 .kept;
-                progress = still-at (on .2 .progress) (after .state) (after .nothing);
+                progress = still-at (on .2 .progress) (after .state) nothing;
               },
             );
       }
@@ -139,10 +138,10 @@ module _ {r r' : Reading} {history out history' out' chunk : List ℕ} (ran : Ra
           at-most true = omega arith
           at-most false = omega arith
 
-pub run-begins : {history out : List ℕ} (state : State) (pending : Pending) → state ≡ encode freshEngine → pending ≡ pendingOf [] → history ≡ replicate 4096 0 →
-    length out ≡ 4096 → Ran (record { session = record { state = state; waiting = record { len = 0; sound = true } }; pending = pending; more = true; left = 18446744073709551615 }) history out
-unfolding begun withLines linesOf flatten
-run-begins {history} {out} state pending fresh none places size =
+pub run-begins : {r : Reading} {history out : List ℕ} → r ≡ firstReading → history ≡ replicate 4096 0 → length out ≡ 4096 → Ran r history out
+unfolding firstReading begun withLines linesOf flatten
+run-begins {history = history} first places size =
+    rw first (
     record {
       reads = [];
       some = tt;
@@ -155,13 +154,8 @@ run-begins {history} {out} state pending fresh none places size =
             lines = [];
             begun-line = [];
             cut = λ rest. refl;
-            kept = none;
-            progress =
-                record {
-                  held = rw fresh (fresh-held history);
-                  history-is = places;
-                  size = size;
-                  waits = record { written = []; fits = omega arith; is = refl };
-                };
+            kept = refl;
+            progress = record { held = fresh-held history; history-is = places; size = size; waits = record { written = []; fits = omega arith; is = refl } };
           };
     }
+    )

@@ -1,13 +1,14 @@
 -- What the program holds of a session between its calls of the system. Left to the code and the tests: that the one `read` and the one `write` are called where the code calls them,
 -- and that they move the bytes that they report. No contract of theirs tells which bytes they move.
-use mathlib.Core.Bool.{Bool, true, false, _&&_}
+use mathlib.Core.Bool.{true, false, _&&_}
 use mathlib.Core.List.{List, [], _∷_, _++_, flatten}
 use mathlib.Core.Path.{_≡_}
 use Prim.Native.Nat.{ℕ, _+_, _≤_}
 use lib.IntN.{ℤ}
 use lib.ListN.{length, take}
 use Rattle.io.specs.Counts.{clamped}
-use Rattle.engine.specs.State.{Holds}
+use Rattle.engine.specs.Engine.{freshEngine}
+use Rattle.engine.specs.State.{Holds, encode}
 use Rattle.framing.specs.Framing.{linesAfter, linesOf, pendingOf}
 use Rattle.session.specs.declared.Waiting.{Waiting}
 use Rattle.session.specs.declared.Session.{Session}
@@ -16,7 +17,8 @@ use Rattle.session.specs.Session.{Progress, begun, withLines, sessionOf}
 
 -- ---- where a session stands
 
--- What waits in the output buffer is the end of what was said; the part before it was handed to `write`.
+-- What waits in the output buffer is the end of what was said. That the part before it was written is not said here: in the code only `flush`
+-- empties the buffer, and it writes.
 pub record Waits (said out : List ℕ) (w : Waiting) : Type 0 where
   pub written : List ℕ
   pub fits : w .len ≤ length out
@@ -54,13 +56,12 @@ pub record Received (input : List ℕ) (r : Reading) (chunk : List ℕ) (got : �
   pub goes : 1 ≤ length (delivered got chunk)
       → (r' .more ≡ true) × (r' .left + 1 ≡ r .left) × Follows (input ++ delivered got chunk) r' history out
 
--- What is made of a write's answer: nothing waits, and the session goes on only if the write went through.
-pub record AfterWrite (r : Reading) (written : Bool) (r' : Reading) : Type 0 where
+-- What is made of a flush, which leaves `w`: the session goes on only if the write went through.
+pub record Flushed (r : Reading) (w : Waiting) (r' : Reading) : Type 0 where
   pub state : r' .session .state ≡ r .session .state
-  pub nothing : r' .session .waiting .len ≡ 0
-  pub sound : r' .session .waiting .sound ≡ written
+  pub waiting : r' .session .waiting ≡ w
   pub pending : r' .pending ≡ r .pending
-  pub more : r' .more ≡ (r .more && written)
+  pub more : r' .more ≡ (r .more && w .sound)
   pub left : r' .left ≡ r .left
 
 -- A turn: what was read is taken, and nothing waits any more. Free is only `got`, what the read call answered.
@@ -73,6 +74,16 @@ pub record Turned (input : List ℕ) (r : Reading) (chunk : List ℕ) (r' : Read
       → (r' .session .waiting .sound ≡ true → r' .more ≡ true) × (r' .left + 1 ≡ r .left) × Follows (input ++ delivered got chunk) r' history out
 
 -- ---- a run
+
+-- Before the first turn: a fresh engine, nothing read, nothing said. So many reads may follow that no run uses them up.
+unfoldable pub firstReading : Reading
+firstReading =
+    record {
+      session = record { state = encode freshEngine; waiting = record { len = 0; sound = true } };
+      pending = pendingOf [];
+      more = true;
+      left = 18446744073709551615;
+    }
 
 -- Every read delivered something.
 abbrev pub EachSome : List (List ℕ) → Type 0

@@ -9,7 +9,7 @@ ghost use Rattle.engine.specs.Engine.{Engine};
 ghost use Rattle.engine.specs.State.{Holds};
 ghost use Rattle.framing.specs.Framing.{pendingOf};
 ghost use Rattle.session.specs.Session.{asText, laterLines, Progress, withLine, sessionOf};
-ghost use Rattle.session.specs.Program.{Waits, FailureKept, At, Follows, Received, AfterWrite, Turned, Ran};
+ghost use Rattle.session.specs.Program.{Waits, FailureKept, At, Follows, Received, Flushed, Turned, firstReading, Ran};
 use engine::State;
 use framing::Pending;
 use libc::STDIN_FILENO;
@@ -46,16 +46,27 @@ fn history_places() -> [u32; 4096]
     [0u32; 4096]
 }
 
-// Writes what waits, and tells whether every write so far went through. After a write that failed nothing more is written.
-fn flush(out: &[u8], waiting: Waiting) -> bool
-    ensures { λ r. ⌜ (waiting .sound ≡ false → r ≡ false) ⌝ }
+// What a write leaves: nothing waits, and whether it went through is known.
+fn emptied(written: bool) -> Waiting
+    ensures { λ r. ⌜ r ≡ record { len = 0; sound = written } ⌝ }
+{
+    Waiting {
+        len: 0,
+        sound: written,
+    }
+}
+
+// Writes what waits; only here is anything written. After a write that failed nothing more is.
+fn flush(out: &[u8], waiting: Waiting) -> Waiting
+    ensures { λ r. ⌜ r .len ≡ 0 ⌝ }
+    ensures { λ r. ⌜ FailureKept waiting r ⌝ }
 {
     let len = waiting.len;
     let sound = waiting.sound;
     if !sound {
-        return false;
+        return emptied(false);
     }
-    io::write_all(STDOUT_FILENO, framing::front(out, len))
+    emptied(io::write_all(STDOUT_FILENO, framing::front(out, len)))
 }
 
 // An answer line with its line feed, behind those that wait; where there is no room, these are written first.
@@ -70,9 +81,11 @@ fn say(out: &mut [u8], waiting: Waiting, answer: &[u8]) -> Waiting
         let sound = waiting.sound;
         return Waiting { len, sound };
     }
-    let sound = flush(out, waiting);
+    let flushed = flush(out, waiting);
+    let first = flushed.len;
+    let sound = flushed.sound;
     Waiting {
-        len: framing::put_line(out, 0, answer),
+        len: framing::put_line(out, first, answer),
         sound,
     }
 }
@@ -202,9 +215,9 @@ fn take_read(
     take_chunk(reading, history, out, framing::front(chunk, count))
 }
 
-// Once what waited is written, or was not: a write that failed ends the session.
-fn after_write(reading: Reading, written: bool) -> Reading
-    ensures { λ r. ⌜ AfterWrite reading written r ⌝ }
+// Once what waited is flushed: a write that failed ends the session.
+fn after_flush(reading: Reading, flushed: Waiting) -> Reading
+    ensures { λ r. ⌜ Flushed reading flushed r ⌝ }
 {
     let state = reading.session.state;
     let pending = reading.pending;
@@ -212,13 +225,10 @@ fn after_write(reading: Reading, written: bool) -> Reading
     Reading {
         session: Session {
             state,
-            waiting: Waiting {
-                len: 0,
-                sound: written,
-            },
+            waiting: flushed,
         },
         pending,
-        more: reading.more && written,
+        more: reading.more && flushed.sound,
         left,
     }
 }
@@ -232,9 +242,24 @@ fn turn(reading: Reading, history: &mut [u32], out: &mut [u8], chunk: &mut [u8])
 {
     let got = libc::read(STDIN_FILENO, chunk);
     let taken = take_read(reading, history, out, chunk, got);
-    let session = taken.session;
-    let written = flush(out, session.waiting);
-    after_write(taken, written)
+    let waiting = taken.session.waiting;
+    let flushed = flush(out, waiting);
+    after_flush(taken, flushed)
+}
+
+// A fresh engine, nothing read, nothing said.
+fn begin() -> Reading
+    ensures { λ r. ⌜ r ≡ firstReading ⌝ }
+{
+    Reading {
+        session: Session {
+            state: engine::fresh(),
+            waiting: emptied(true),
+        },
+        pending: framing::empty(),
+        more: true,
+        left: u64::MAX,
+    }
 }
 
 // Turn after turn, to the end of the input or to a write that failed.
@@ -245,18 +270,7 @@ fn run(history: &mut [u32], out: &mut [u8], chunk: &mut [u8]) -> Reading
     ensures { λ r. ⌜ Ran r (now (history .exit)) (now (out .exit)) ⌝ }
     ensures { λ r. ⌜ (r .more ≡ true → r .left ≡ 0) ⌝ }
 {
-    let mut reading = Reading {
-        session: Session {
-            state: engine::fresh(),
-            waiting: Waiting {
-                len: 0,
-                sound: true,
-            },
-        },
-        pending: framing::empty(),
-        more: true,
-        left: u64::MAX,
-    };
+    let mut reading = begin();
     while reading.more && reading.left > 0 {
         reading = turn(reading, history, out, chunk);
     }

@@ -17,16 +17,11 @@ Inv-loop history₀ out₀ chunk₀ reading₀ history out chunk reading =
 abbrev μ-loop : tie.MeasureT-loop
 μ-loop history₀ out₀ chunk₀ reading₀ history out chunk reading = ahead reading
 
-fresh-requires : tie.Need-fresh-requires Inv-loop μ-loop
-fresh-requires c κs = search needs
-
-empty-requires : tie.Need-empty-requires Inv-loop μ-loop
-empty-requires c κs = search needs
+begin-requires : tie.Need-begin-requires Inv-loop μ-loop
+begin-requires c κs = search needs
 
 loop-holds : tie.Need-loop-holds Inv-loop μ-loop
-loop-holds c =
-    let pre = c .before .before .before .before .before .pre in
-    (refl, refl, refl, run-begins _ _ (c .before .fresh .ensures) (c .empty .ensures) (pre .0) (pre .1 .0))
+loop-holds c = let pre = c .before .before .before .before .pre in (refl, refl, refl, run-begins (c .begin .ensures) (pre .0) (pre .1 .0))
 
 turn-requires : tie.Need-turn-requires Inv-loop μ-loop
 turn-requires c κs = ltb-true 0 _ (c .before .before .before .if1 .taken)
@@ -72,8 +67,7 @@ run-spec =
     (tie.spec
     Inv-loop
     μ-loop
-    fresh-requires
-    empty-requires
+    begin-requires
     loop-holds
     turn-requires
     loop-less

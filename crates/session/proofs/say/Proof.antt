@@ -23,10 +23,11 @@ same-length-2 : tie.Need-same-length-2
 same-length-2 c = search needs
 
 returns-2 : tie.Need-returns-2
-returns-2 c = (
-  λ said less w. first-waits w (c .before .before .before .before .before .before .before .before .before .put-line .ensures) (c .before .before .before .before .before .before .if1 .left) (c .before .before .put-line2 .ensures) less,
-  c .before .before .before .before .flush .ensures,
-)
+returns-2 c =
+    let flushed = c .before .before .before .before .flush in (
+      λ said less w. first-waits w (c .before .before .before .before .before .before .before .before .before .put-line .ensures) (c .before .before .before .before .before .before .if1 .left) (rw (flushed .ensures .0) at (c .before .before .put-line2 .ensures)) less,
+      flushed .ensures .1,
+    )
 
 pub say-spec : {M : Type 1} → statement M
 say-spec =

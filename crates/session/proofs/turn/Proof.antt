@@ -1,5 +1,6 @@
 -- What the read call answered is taken, and what the write answered is heeded.
-use mathlib.Core.Path.{_∙_}
+use mathlib.Core.Path.{ap, _∙_}
+use Rattle.session.specs.declared.Waiting.{Waiting}
 use Rattle.session.proofs.TurnsTaken.{turn-taken}
 use borrow.Author.Needs.{needs}
 use Rattle.session.proofs.turn.Statement.{statement}
@@ -14,8 +15,8 @@ take-read-requires c κs = search needs
 flush-requires : tie.Need-flush-requires
 flush-requires c κs = search needs
 
-after-write-requires : tie.Need-after-write-requires
-after-write-requires c κs = search needs
+after-flush-requires : tie.Need-after-flush-requires
+after-flush-requires c κs = search needs
 
 same-length : tie.Need-same-length
 same-length c = search needs
@@ -24,13 +25,15 @@ same-length-2 : tie.Need-same-length-2
 same-length-2 c = search needs
 
 same-length-3 : tie.Need-same-length-3
-same-length-3 c = search needs
+same-length-3 c = let read = c .before .before .before .before .before .before .before .before .before .before .before .before in search needs
 
 returns : tie.Need-returns
 returns c =
-    let taken = c .before .before .before .before .before .before .before .before .take-read in (
-      λ input f. turn-taken (taken .ensures .0 input f) (c .after-write .ensures),
-      λ failed. c .after-write .ensures .sound ∙ c .before .flush .ensures (taken .ensures .1 failed),
+    let taken = c .before .before .before .before .before .before .before .before .take-read in
+    let flushed = c .before .flush in
+    let after = c .after-flush in (
+      λ input f. turn-taken (taken .ensures .0 input f) (flushed .ensures .0) (after .ensures),
+      λ failed. ap (λ (w : Waiting). w .sound) (after .ensures .waiting) ∙ flushed .ensures .1 (taken .ensures .1 failed),
     )
 
 pub turn-spec : {M : Type 1} → statement M
@@ -40,7 +43,7 @@ turn-spec =
     read-requires
     take-read-requires
     flush-requires
-    after-write-requires
+    after-flush-requires
     same-length
     same-length-2
     same-length-3
