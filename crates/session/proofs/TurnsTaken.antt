@@ -45,8 +45,8 @@ still-at {s' = s'} at same none =
     record { held = rw same (at .held); history-is = at .history-is; size = at .size; waits = waits-nothing (s' .waiting) (at .waits) none }
 
 module _ {input : List ℕ} {r r₁ r' : Reading} {chunk history out : List ℕ} {got : ℤ} {w : Waiting} where
-  pub turn-taken : Received input r chunk got r₁ history out → w .len ≡ 0 → Flushed r₁ w r' → Turned input r chunk r' history out
-  turn-taken taken empty after =
+  pub turn-taken : Received input r chunk got r₁ history out → Flushed r₁ w r' → w .len ≡ 0 → Turned input r chunk r' history out
+  turn-taken taken after empty =
       let nothing : r' .session .waiting .len ≡ 0 = ap (λ (v : Waiting). v .len) (after .waiting) ∙ empty in
       let sound : w .sound ≡ r' .session .waiting .sound = ap (λ (v : Waiting). v .sound) (sym (after .waiting)) in
       record {

@@ -24,7 +24,7 @@ loop-holds : tie.Need-loop-holds Inv-loop μ-loop
 loop-holds c = let pre = c .before .before .before .before .pre in (refl, refl, refl, run-begins (c .begin .ensures) (pre .0) (pre .1 .0))
 
 turn-requires : tie.Need-turn-requires Inv-loop μ-loop
-turn-requires c κs = ltb-true 0 _ (c .before .before .before .if1 .taken)
+turn-requires c κs = omega (arith, ltb-true)
 
 loop-less : tie.Need-loop-less Inv-loop μ-loop
 loop-less c = turn-nears (c .before .before .before .before .before .before .before .before .before .before .before .before .before .loop .inv .3) (c .before .before .before .before .before .before .before .before .before .before .before .before .loop-test .taken) (c .before .before .before .before .before .before .turn .ensures .0)
@@ -47,7 +47,7 @@ same-length-3 : tie.Need-same-length-3 Inv-loop μ-loop
 same-length-3 c = search needs
 
 returns : tie.Need-returns Inv-loop μ-loop
-returns c = (c .before .before .before .loop .inv .3, λ more. omega (arith, ltb-false 0 (c .before .before .before .loop .reading .left) (c .if1 .left)))
+returns c = (c .before .before .before .loop .inv .3, λ more. omega (arith, ltb-false))
 
 same-length-4 : tie.Need-same-length-4 Inv-loop μ-loop
 same-length-4 c = search needs
