@@ -99,14 +99,14 @@ module _ (input chunk : List ℕ) (from : ℕ) (s : Session) (pending : Pending)
 -- ---- the end of the input
 
 -- "a last line without one counts too"
-pub input-ended : (input : List ℕ) (r : Reading) {s : Session} (history out : List ℕ) {history' out' : List ℕ} → Follows input r history out →
-    ((p : Progress) (line : List ℕ) → At p (r .session) history out → r .pending ≡ pendingOf line → At (withLine p line) s history' out') →
+pub input-ended : (input : List ℕ) (r : Reading) {s : Session} {pending : Pending} (history out : List ℕ) {history' out' : List ℕ} → Follows input r history out →
+    ((p : Progress) (line : List ℕ) → At p (r .session) history out → pending ≡ pendingOf line → At (withLine p line) s history' out') → pending ≡ r .pending →
     At (sessionOf input) s history' out'
 unfolding sessionOf linesAfter
-input-ended input r {s} history out {history'} {out'} f taken =
-    rw (ap linesOf (sym (append-nil input)) ∙ f .cut []) (go (f .begun-line) (f .kept))
+input-ended input r {s} {pending} history out {history'} {out'} f taken same =
+    rw (ap linesOf (sym (append-nil input)) ∙ f .cut []) (go (f .begun-line) (same ∙ f .kept))
   where
-    go : (line : List ℕ) → r .pending ≡ pendingOf line → At (withLines begun (f .lines ++ cond (eqb (length line) 0) [] (line ∷ []))) s history' out'
+    go : (line : List ℕ) → pending ≡ pendingOf line → At (withLines begun (f .lines ++ cond (eqb (length line) 0) [] (line ∷ []))) s history' out'
     go [] kept = rw append-nil (rw (empty-taken (withLines begun (f .lines))) at (taken (withLines begun (f .lines)) [] (f .progress) kept))
     go (x ∷ xs) kept =
         rw (ne-eqb (length (x ∷ xs)) 0 (λ z. omega arith), lines-then begun (f .lines) (x ∷ xs)) (taken (withLines begun (f .lines)) (x ∷ xs) (f .progress) kept)

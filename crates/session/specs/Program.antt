@@ -1,9 +1,9 @@
--- What the program holds of a session between its calls of the system. Left to the code and the tests: that the one `read` and the one `write` are called where the code calls them,
--- and that they move the bytes that they report. No contract of theirs tells which bytes they move.
+-- What the program holds of a session, and what it makes of each answer of the system's `read` and `write`. Their contracts do not tell which
+-- bytes they move. So that they move those that they report, and that the program makes these calls, is read off the code and tested.
 use mathlib.Core.Bool.{true, false, _&&_}
 use mathlib.Core.List.{List, [], _∷_, _++_, flatten}
 use mathlib.Core.Path.{_≡_}
-use Prim.Native.Nat.{ℕ, _+_, _≤_}
+use Prim.Native.Nat.{ℕ, _+_, _-_, _^_, _≤_}
 use lib.IntN.{ℤ}
 use lib.ListN.{length, take}
 use Rattle.io.specs.Counts.{clamped}
@@ -64,7 +64,7 @@ pub record Flushed (r : Reading) (w : Waiting) (r' : Reading) : Type 0 where
   pub more : r' .more ≡ (r .more && w .sound)
   pub left : r' .left ≡ r .left
 
--- A turn: what was read is taken, and nothing waits any more. Free is only `got`, what the read call answered.
+-- A turn: what was read is taken, and nothing waits after it. Free is only `got`, what the read call answered.
 pub record Turned (input : List ℕ) (r : Reading) (chunk : List ℕ) (r' : Reading) (history out : List ℕ) : Type 0 where
   pub got : ℤ
   pub nothing : r' .session .waiting .len ≡ 0
@@ -75,14 +75,18 @@ pub record Turned (input : List ℕ) (r : Reading) (chunk : List ℕ) (r' : Read
 
 -- ---- a run
 
--- Before the first turn: a fresh engine, nothing read, nothing said. So many reads may follow that no run uses them up.
+-- So many reads may deliver something, and no run uses them up: a proved loop has to end, and nothing says that the input does.
+abbrev pub mostReads : ℕ
+mostReads = 2 ^ 64 - 1
+
+-- Before the first turn: a fresh engine, nothing read, nothing said.
 unfoldable pub firstReading : Reading
 firstReading =
     record {
       session = record { state = encode freshEngine; waiting = record { len = 0; sound = true } };
       pending = pendingOf [];
       more = true;
-      left = 18446744073709551615;
+      left = mostReads;
     }
 
 -- Every read delivered something.
@@ -90,12 +94,12 @@ abbrev pub EachSome : List (List ℕ) → Type 0
 EachSome [] = Unit {0}
 EachSome (d ∷ ds) = (1 ≤ length d) × EachSome ds
 
--- After any number of turns. Free is only `reads`, what the read calls delivered one after the other; together they are the input. The
--- program stops with the session of all that was read, unless a write failed.
+-- After any number of turns. Free is only `reads`, what the read calls delivered one after the other; together they are the input. Nothing waits.
+-- The program stops with the session of the whole input, unless a write failed.
 pub record Ran (r : Reading) (history out : List ℕ) : Type 0 where
   pub reads : List (List ℕ)
   pub some : EachSome reads
-  pub counted : length reads + r .left ≡ 18446744073709551615
+  pub counted : length reads + r .left ≡ mostReads
   pub nothing : r .session .waiting .len ≡ 0
   pub failed : r .session .waiting .sound ≡ false → r .more ≡ false
   pub ended : r .more ≡ false → r .session .waiting .sound ≡ true → At (sessionOf (flatten reads)) (r .session) history out

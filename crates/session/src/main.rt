@@ -30,8 +30,8 @@ struct Session {
     waiting: Waiting,
 }
 
-// A session, the line that it is reading, whether there is more to read, and how many more reads there may be. A proved loop has to end,
-// and nothing says that the input does: the reads are counted down from a number that no run uses up.
+// A session, the line that it is reading, whether there is more to read, and how many more reads may deliver something. A proved loop has to
+// end, and nothing says that the input does: they are counted down from a number that no run uses up.
 struct Reading {
     session: Session,
     pending: Pending,

@@ -25,8 +25,8 @@ same-length-2 c = search needs
 returns-2 : tie.Need-returns-2
 returns-2 c =
     let flushed = c .before .before .before .before .flush in (
-      λ said less w. first-waits w (c .before .before .before .before .before .before .before .before .before .put-line .ensures) (c .before .before .before .before .before .before .if1 .left) (rw (flushed .ensures .0) at (c .before .before .put-line2 .ensures)) less,
-      flushed .ensures .1,
+      λ said less w. first-waits w (c .before .before .before .before .before .before .before .before .before .put-line .ensures) (c .before .before .before .before .before .before .if1 .left) (c .before .before .put-line2 .ensures) (search needs) less,
+      λ failed. let stays = flushed .ensures .1 failed in search needs,
     )
 
 pub say-spec : {M : Type 1} → statement M

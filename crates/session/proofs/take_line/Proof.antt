@@ -40,12 +40,11 @@ same-length-3 c = search needs
 returns-2 : tie.Need-returns-2
 returns-2 c =
     let line = c .before .before .before .before .before .before .before .before .before .before .before .before .before .before .before .before .before .line in
-    let front = c .before .before .before .before .before .before .before .before .front in
     let said = c .before .before .before .before .before .before .before .say in
     let listed = c .before .before .list in (
       λ p at.
           line-listed p _ _ _ _ at (line .ensures) (search needs) (search needs) (c .before .before .before .before .before .before .before .before .before .before .before .if1 .left) (said .ensures .0)
-          (front .ensures) (search needs) (search needs) (listed .ensures .0),
+          (search needs) (search needs) (search needs) (listed .ensures .0),
       λ failed. listed .ensures .1 (said .ensures .1 failed),
     )
 
@@ -58,10 +57,9 @@ same-length-5 c = search needs
 returns-3 : tie.Need-returns-3
 returns-3 c =
     let line = c .before .before .before .before .before .before .before .before .before .before .before .before .before .line in
-    let front = c .before .before .before .before .front in
     let said = c .before .before .before .say in (
       λ p at.
-          line-said p _ _ _ _ at (line .ensures) (search needs) (search needs) (c .before .before .before .before .before .before .before .if1 .left) (said .ensures .0) (front .ensures) (c .if2 .left)
+          line-said p _ _ _ _ at (line .ensures) (search needs) (search needs) (c .before .before .before .before .before .before .before .if1 .left) (said .ensures .0) (search needs) (c .if2 .left)
           (search needs),
       said .ensures .1,
     )

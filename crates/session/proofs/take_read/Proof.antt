@@ -1,5 +1,6 @@
 -- Nothing delivered ends the input; what was delivered is the front of the chunk that is taken.
 use mathlib.Core.Path.{refl, ap, _∙_}
+use native.Mathlib.Omega.{arith}
 use lib.IntN.{ℤ}
 use lib.ListN.{length}
 use mir.Facts.{toZ-ofZ}
@@ -27,7 +28,7 @@ returns c =
     let count = c .before .before .before .before .before .before .before .before .before .count in
     let is = count .ensures .1 ∙ ap (λ (z : ℤ). clamped z (length (start .args .chunk .now))) (toZ-ofZ (start .fits .got)) in
     let last = c .before .before .before .before .take-last in (
-      λ input f. read-ended (start .args .chunk .now) (start .args .got) (count .ensures .0) is (c .before .before .before .before .before .before .before .before .if1 .taken) refl refl (last .ensures .0 input f),
+      λ input f. read-ended (start .args .chunk .now) (start .args .got) (count .ensures .0) is (omega (arith, c .before .before .before .before .before .before .before .before .if1 .taken)) refl refl (last .ensures .0 input f),
       last .ensures .1,
     )
 
@@ -48,10 +49,9 @@ returns-2 c =
     let start = c .before .before .before .before .before .before .before .before .before .before .before .before .before in
     let count = c .before .before .before .before .before .before .before .before .before .count in
     let is = count .ensures .1 ∙ ap (λ (z : ℤ). clamped z (length (start .args .chunk .now))) (toZ-ofZ (start .fits .got)) in
-    let front = c .before .before .before .before .before .front in
     let taken = c .before .before .before .before .take-chunk in (
       λ input f.
-          read-taken (start .args .chunk .now) (start .args .got) (count .ensures .0) is (c .before .before .before .before .before .before .before .before .if1 .left) (front .ensures) (taken .ensures .1 .0) (taken .ensures .1 .1 .0)
+          read-taken (start .args .chunk .now) (start .args .got) (count .ensures .0) is (λ none. omega (arith, c .before .before .before .before .before .before .before .before .if1 .left)) (search needs) (taken .ensures .1 .0) (taken .ensures .1 .1 .0)
           (taken .ensures .0 input f),
       taken .ensures .1 .1 .1,
     )

@@ -32,7 +32,7 @@ returns c =
     let taken = c .before .before .before .before .before .before .before .before .take-read in
     let flushed = c .before .flush in
     let after = c .after-flush in (
-      λ input f. turn-taken (taken .ensures .0 input f) (after .ensures) (flushed .ensures .0),
+      λ input f. turn-taken (taken .ensures .0 input f) (after .ensures) (search needs),
       λ failed. ap (λ (w : Waiting). w .sound) (after .ensures .waiting) ∙ flushed .ensures .1 (taken .ensures .1 failed),
     )
 
