@@ -1,6 +1,6 @@
 // Bracket lines from standard input, answers to standard output. Nothing is kept of the input but the line that is being read, and all
 // answers are written before the program waits for more.
-ghost use mathlib.Core.Bool.{true, false};
+ghost use mathlib.Core.Bool.{true};
 ghost use mathlib.Core.List.{List, [], _∷_, _++_};
 ghost use mathlib.Core.Path.{_≡_};
 ghost use Prim.Native.Nat.{ℕ, _+_, _≤_, _<_};
