@@ -16,7 +16,8 @@ use Rattle.framing.proofs.Clipped.{pending-joined}
 use Rattle.framing.proofs.LinesCut.{first-line, no-line-yet}
 use Rattle.session.specs.declared.Session.{Session}
 use Rattle.session.specs.declared.Reading.{Reading}
-use Rattle.session.specs.Session.{asText, Progress, begun, answerTo, withResponse, withLine, withLines, sessionOf, At, Follows}
+use Rattle.session.specs.Session.{asText, Progress, begun, answerTo, withResponse, withLine, withLines, sessionOf}
+use Rattle.session.specs.Program.{At, Follows}
 
 -- ---- lines in turn
 
@@ -64,7 +65,7 @@ module _ (input chunk : List ℕ) (from : ℕ) (s : Session) (pending : Pending)
   unfolding scanned lineNow
   line-kept = rw (is, a .kept) (pending-joined (a .begun-line) passed)
 
-  pub chunk-ended : f .complete ≡ false → Follows (input ++ chunk) (record { session = s; pending = f .pending; more = true }) history out
+  pub chunk-ended : {left : ℕ} → f .complete ≡ false → Follows (input ++ chunk) (record { session = s; pending = f .pending; more = true; left = left }) history out
   unfolding scanned lineNow
   chunk-ended none =
       let feedless : hasFeed (drop from chunk) ≡ false = rw is at none in
@@ -98,14 +99,14 @@ module _ (input chunk : List ℕ) (from : ℕ) (s : Session) (pending : Pending)
 -- ---- the end of the input
 
 -- "a last line without one counts too"
-pub input-ended : (input : List ℕ) (r : Reading) {s : Session} (history out : List ℕ) {history' out' : List ℕ} → Follows input r history out →
-    ((p : Progress) (line : List ℕ) → At p (r .session) history out → r .pending ≡ pendingOf line → At (withLine p line) s history' out') →
+pub input-ended : (input : List ℕ) (r : Reading) {s : Session} {pending : Pending} (history out : List ℕ) {history' out' : List ℕ} → Follows input r history out →
+    ((p : Progress) (line : List ℕ) → At p (r .session) history out → pending ≡ pendingOf line → At (withLine p line) s history' out') → pending ≡ r .pending →
     At (sessionOf input) s history' out'
 unfolding sessionOf linesAfter
-input-ended input r {s} history out {history'} {out'} f taken =
-    rw (ap linesOf (sym (append-nil input)) ∙ f .cut []) (go (f .begun-line) (f .kept))
+input-ended input r {s} {pending} history out {history'} {out'} f taken same =
+    rw (ap linesOf (sym (append-nil input)) ∙ f .cut []) (go (f .begun-line) (same ∙ f .kept))
   where
-    go : (line : List ℕ) → r .pending ≡ pendingOf line → At (withLines begun (f .lines ++ cond (eqb (length line) 0) [] (line ∷ []))) s history' out'
+    go : (line : List ℕ) → pending ≡ pendingOf line → At (withLines begun (f .lines ++ cond (eqb (length line) 0) [] (line ∷ []))) s history' out'
     go [] kept = rw append-nil (rw (empty-taken (withLines begun (f .lines))) at (taken (withLines begun (f .lines)) [] (f .progress) kept))
     go (x ∷ xs) kept =
         rw (ne-eqb (length (x ∷ xs)) 0 (λ z. omega arith), lines-then begun (f .lines) (x ∷ xs)) (taken (withLines begun (f .lines)) (x ∷ xs) (f .progress) kept)

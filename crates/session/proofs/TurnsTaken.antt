@@ -1,66 +1,161 @@
--- From turn to turn: what waits is written, what was read is taken, and at first there is nothing.
-use Prim.Native.Nat.{ℕ}
-use mathlib.Core.Path.{_≡_, refl, sym, _∙_}
-use mathlib.Core.Bool.{Bool, true, false, true≢false}
-use mathlib.Core.List.{List, [], _++_}
-use lib.ListN.{length, take, replicate}
+-- From turn to turn: what was read is taken, what waits is written, and at first there is nothing.
+use Prim.Native.Nat.{ℕ, _+_, _≤_, _<_}
+use mathlib.Core.Path.{_≡_, refl, sym, ap, ap₂, _∙_}
+use mathlib.Core.Bool.{Bool, true, false, cond, _&&_, true≢false, and-false}
+use mathlib.Core.List.{List, [], _∷_, _++_, flatten, append-nil, append-assoc}
+use lib.Dec.{eqb}
+use lib.IntN.{ℤ}
+use lib.ListN.{length, take, replicate, length-append}
 use native.Mathlib.Omega.{arith}
-use Rattle.engine.specs.declared.State.{State}
-use Rattle.engine.specs.Engine.{freshEngine}
-use Rattle.engine.specs.State.{encode}
+use borrow.Author.Tests.{eqb-true, eqb-false}
+use Rattle.io.specs.Counts.{Counts, clamped}
 use Rattle.engine.proofs.Keeping.{fresh-held}
-use Rattle.framing.specs.declared.Pending.{Pending}
-use Rattle.framing.specs.Framing.{linesOf, pendingOf}
+use Rattle.framing.specs.Framing.{linesOf}
 use Rattle.session.specs.declared.Waiting.{Waiting}
+use Rattle.session.specs.declared.Session.{Session}
 use Rattle.session.specs.declared.Reading.{Reading}
-use Rattle.session.specs.Session.{begun, withLines, Follows, Turned, Ran}
+use Rattle.session.specs.Session.{Progress, begun, withLines, sessionOf}
+use Rattle.session.specs.Program.{At, Follows, delivered, Received, Flushed, Turned, firstReading, EachSome, Ran}
 use Rattle.session.proofs.WhatWaits.{waits-nothing}
 
+-- ---- what was read
+
+module _ (chunk : List ℕ) (got : ℤ) {count : ℕ} (counts : Counts count chunk) (is : count ≡ clamped got (length chunk)) where
+  delivered-is : delivered got chunk ≡ take count chunk
+  unfolding delivered
+  delivered-is = ap (λ (n : ℕ). take n chunk) (sym is)
+
+  delivered-length : length (delivered got chunk) ≡ count
+  delivered-length = ap length delivered-is ∙ sym (counts .1)
+
+  module _ {input : List ℕ} {r r' : Reading} {history out : List ℕ} where
+    pub read-ended : count ≡ 0 → r' .more ≡ false → r' .left ≡ r .left → At (sessionOf input) (r' .session) history out → Received input r chunk got r' history out
+    read-ended none stops left at = record { ended = λ _. (stops, left, at); goes = λ some. absurd (omega (arith, delivered-length)) }
+
+    pub read-taken : {front : List ℕ} → (count ≡ 0 → ⊥) → front ≡ take count chunk → r' .more ≡ true → r' .left + 1 ≡ r .left → Follows (input ++ front) r' history out
+        → Received input r chunk got r' history out
+    read-taken some front more left taken =
+        record { ended = λ none. absurd (some (sym delivered-length ∙ none)); goes = λ _. (more, left, rw (delivered-is, ← front) taken) }
+
+-- ---- a turn
+
 -- Nothing changes but that what waited is written.
-pub still-follows : (input : List ℕ) (r : Reading) (w : Waiting) (b : Bool) {history out : List ℕ} → Follows input r history out → w .len ≡ 0 →
-    Follows input (record { session = record { state = r .session .state; waiting = w }; pending = r .pending; more = b }) history out
-still-follows input r w b f z =
-    record {
-      lines = f .lines;
-      begun-line = f .begun-line;
-      cut = f .cut;
-      kept = f .kept;
-      progress =
+still-at : {p : Progress} {s s' : Session} {history out : List ℕ} → At p s history out → s' .state ≡ s .state → s' .waiting .len ≡ 0 → At p s' history out
+still-at {s' = s'} at same none =
+    record { held = rw same (at .held); history-is = at .history-is; size = at .size; waits = waits-nothing (s' .waiting) (at .waits) none }
+
+module _ {input : List ℕ} {r r₁ r' : Reading} {chunk history out : List ℕ} {got : ℤ} {w : Waiting} where
+  pub turn-taken : Received input r chunk got r₁ history out → Flushed r₁ w r' → w .len ≡ 0 → Turned input r chunk r' history out
+  turn-taken taken after empty =
+      let nothing : r' .session .waiting .len ≡ 0 = ap (λ (v : Waiting). v .len) (after .waiting) ∙ empty in
+      let sound : w .sound ≡ r' .session .waiting .sound = ap (λ (v : Waiting). v .sound) (sym (after .waiting)) in
+      record {
+        got = got;
+        nothing = nothing;
+        failed = λ failed. after .more ∙ ap (λ (b : Bool). r₁ .more && b) (sound ∙ failed) ∙ and-false (r₁ .more);
+        ended = λ none.
+            let end = taken .ended none in (
+              after .more ∙ ap (λ (b : Bool). b && w .sound) (end .0),
+              after .left ∙ end .1,
+              still-at (end .2) (after .state) nothing,
+            );
+        goes = λ some.
+            let on = taken .goes some in (
+              λ went. after .more ∙ ap₂ _&&_ (on .0) (sound ∙ went),
+              ap (λ (n : ℕ). n + 1) (after .left) ∙ on .1,
+              record {
+                lines = on .2 .lines;
+                begun-line = on .2 .begun-line;
+                cut = on .2 .cut;
+                kept = after .pending ∙ on .2 .kept;
+                progress = still-at (on .2 .progress) (after .state) nothing;
+              },
+            );
+      }
+
+-- ---- a run
+
+flatten-then : (reads : List (List ℕ)) (d : List ℕ) → flatten (reads ++ (d ∷ [])) ≡ flatten reads ++ d
+unfolding flatten
+flatten-then [] d = append-nil d
+flatten-then (x ∷ xs) d = ap (λ (l : List ℕ). x ++ l) (flatten-then xs d) ∙ sym (append-assoc x (flatten xs) d)
+
+each-then : (reads : List (List ℕ)) (d : List ℕ) → EachSome reads → 1 ≤ length d → EachSome (reads ++ (d ∷ []))
+each-then [] d each some = (some, tt)
+each-then (x ∷ xs) d each some = (each .0, each-then xs d (each .1) some)
+
+-- Another read, or that there is no more, brings the end nearer.
+unfoldable pub ahead : Reading → ℕ
+ahead r = cond (r .more) 1 0 + r .left
+
+module _ {r r' : Reading} {history out history' out' chunk : List ℕ} (ran : Ran r history out) (more : r .more ≡ true)
+    (turned : (input : List ℕ) → Follows input r history out → Turned input r chunk r' history' out') where
+  turn : Turned (flatten (ran .reads)) r chunk r' history' out'
+  turn = turned (flatten (ran .reads)) (ran .goes more)
+
+  abbrev came : List ℕ
+  came = delivered (turn .got) chunk
+
+  pub runs-on : Ran r' history' out'
+  runs-on = go (eqb (length came) 0) refl
+    where
+      go : (b : Bool) → eqb (length came) 0 ≡ b → Ran r' history' out'
+      go true is =
+          let end = turn .ended (eqb-true (length came) 0 is) in
           record {
-            held = f .progress .held;
-            history-is = f .progress .history-is;
-            size = f .progress .size;
-            waits = waits-nothing w (f .progress .waits) z;
-          };
-    }
+            reads = ran .reads;
+            some = ran .some;
+            counted = rw (end .1) (ran .counted);
+            nothing = turn .nothing;
+            failed = turn .failed;
+            ended = λ no sound. end .2;
+            goes = λ yes. absurd (true≢false (sym yes ∙ end .0));
+          }
+      go false is =
+          let some : 1 ≤ length came = let ne = eqb-false (length came) 0 is in omega arith in
+          let on = turn .goes some in
+          record {
+            reads = ran .reads ++ (came ∷ []);
+            some = each-then (ran .reads) came (ran .some) some;
+            counted = omega (arith, length-append (ran .reads) (came ∷ []), ran .counted, on .1);
+            nothing = turn .nothing;
+            failed = turn .failed;
+            ended = λ no sound. absurd (true≢false (sym (on .0 sound) ∙ no));
+            goes = λ yes. rw (flatten-then (ran .reads) came) (on .2);
+          }
 
-pub runs-on : {r r' : Reading} {history out history' out' chunk : List ℕ} → Ran r history out → r .more ≡ true →
-    ((input : List ℕ) → Follows input r history out → Turned input r' history' out' chunk) → Ran r' history' out'
-runs-on {r' = r'} {history' = history'} {out' = out'} {chunk = chunk} ran more turned = go (r' .more) refl (turned (ran .input) (ran .goes more))
-  where
-    go : (b : Bool) → r' .more ≡ b → Turned (ran .input) r' history' out' chunk → Ran r' history' out'
-    go true is t = record { input = ran .input ++ take (t .count) chunk; goes = t .goes; stops = λ no s. absurd (true≢false (sym is ∙ no)) }
-    go false is t = record { input = ran .input; goes = λ yes. absurd (true≢false (sym yes ∙ is)); stops = t .stops }
+  pub turn-nears : ahead r' < ahead r
+  unfolding ahead
+  turn-nears = rw more (go (eqb (length came) 0) refl)
+    where
+      go : (b : Bool) → eqb (length came) 0 ≡ b → cond (r' .more) 1 0 + r' .left < 1 + r .left
+      go true is = let end = turn .ended (eqb-true (length came) 0 is) in rw (end .0) (omega (arith, end .1))
+      go false is =
+          let some : 1 ≤ length came = let ne = eqb-false (length came) 0 is in omega arith in
+          omega (arith, turn .goes some .1, at-most (r' .more))
+        where
+          at-most : (b : Bool) → cond {A = ℕ} b 1 0 ≤ 1
+          at-most true = omega arith
+          at-most false = omega arith
 
-pub run-begins : {history out : List ℕ} (state : State) (pending : Pending) → state ≡ encode freshEngine → pending ≡ pendingOf [] → history ≡ replicate 4096 0 →
-    length out ≡ 4096 → Ran (record { session = record { state = state; waiting = record { len = 0; sound = true } }; pending = pending; more = true }) history out
-unfolding begun withLines linesOf
-run-begins {history} {out} state pending fresh none places size =
+pub run-begins : {r : Reading} {history out : List ℕ} → r ≡ firstReading → history ≡ replicate 4096 0 → length out ≡ 4096 → Ran r history out
+unfolding firstReading begun withLines linesOf flatten
+run-begins {history = history} first places size =
+    rw first (
     record {
-      input = [];
+      reads = [];
+      some = tt;
+      counted = refl;
+      nothing = refl;
+      failed = λ failed. absurd (true≢false failed);
+      ended = λ no sound. absurd (true≢false no);
       goes = λ yes.
           record {
             lines = [];
             begun-line = [];
             cut = λ rest. refl;
-            kept = none;
-            progress =
-                record {
-                  held = rw fresh (fresh-held history);
-                  history-is = places;
-                  size = size;
-                  waits = record { written = []; fits = omega arith; is = refl };
-                };
+            kept = refl;
+            progress = record { held = fresh-held history; history-is = places; size = size; waits = record { written = []; fits = omega arith; is = refl } };
           };
-      stops = λ no s. absurd (true≢false no);
     }
+    )

@@ -10,7 +10,8 @@ use borrow.Author.Tests.{ltb-true, lt-ltb}
 use Rattle.framing.specs.Framing.{fitting, placed, lineFits, LinePut}
 use Rattle.framing.proofs.Places.{fits-whole}
 use Rattle.session.specs.declared.Waiting.{Waiting}
-use Rattle.session.specs.Session.{asText, Waits}
+use Rattle.session.specs.Session.{asText}
+use Rattle.session.specs.Program.{Waits}
 
 pub asText-append : (a b : List (List ℕ)) → asText (a ++ b) ≡ asText a ++ asText b
 unfolding asText
@@ -60,8 +61,8 @@ module _ {said out : List ℕ} {w : Waiting} (h : Waits said out w) (line : List
   left-by p false f h = rw f at (p .stands)
 
 -- The place did not move: there was no room. What waited is written, and the line is the first that waits.
-pub first-waits : {said out out' out'' line : List ℕ} {at place : ℕ} {w : Waiting} {b : Bool} → Waits said out w → LinePut out (w .len) line at out'
-    → at ≤ w .len → LinePut out' 0 line place out'' → length line < length out → Waits (said ++ asText (line ∷ [])) out'' (record { len = place; sound = b })
-first-waits {out = out} {line = line} {w = w} {b = b} h p stays again less =
+pub first-waits : {said out out' out'' line : List ℕ} {at first place : ℕ} {w : Waiting} {b : Bool} → Waits said out w → LinePut out (w .len) line at out'
+    → at ≤ w .len → LinePut out' first line place out'' → first ≡ 0 → length line < length out → Waits (said ++ asText (line ∷ [])) out'' (record { len = place; sound = b })
+first-waits {out = out} {line = line} {w = w} {b = b} h p stays again front less =
     let same = left-by h line p (lineFits out (w .len) line) refl stays in
-    fitting-waits (waits-nothing (record { len = 0; sound = b }) h refl) line (rw same at again) (omega arith)
+    fitting-waits (waits-nothing (record { len = 0; sound = b }) h refl) line (rw (same, front) at again) (omega arith)

@@ -1,14 +1,15 @@
 // Bracket lines from standard input, answers to standard output. Nothing is kept of the input but the line that is being read, and all
 // answers are written before the program waits for more.
-ghost use mathlib.Core.Bool.{true, false};
+ghost use mathlib.Core.Bool.{true};
 ghost use mathlib.Core.List.{List, [], _∷_, _++_};
 ghost use mathlib.Core.Path.{_≡_};
-ghost use Prim.Native.Nat.{ℕ, _<_};
+ghost use Prim.Native.Nat.{ℕ, _+_, _≤_, _<_};
 ghost use lib.ListN.{length, replicate};
 ghost use Rattle.engine.specs.Engine.{Engine};
 ghost use Rattle.engine.specs.State.{Holds};
 ghost use Rattle.framing.specs.Framing.{pendingOf};
-ghost use Rattle.session.specs.Session.{asText, laterLines, Progress, withLine, Waits, At, Follows, Turned, Ran, sessionOf};
+ghost use Rattle.session.specs.Session.{asText, laterLines, Progress, withLine, sessionOf};
+ghost use Rattle.session.specs.Program.{Waits, FailureKept, At, Follows, Received, Flushed, Turned, firstReading, Ran};
 use engine::State;
 use framing::Pending;
 use libc::STDIN_FILENO;
@@ -29,11 +30,13 @@ struct Session {
     waiting: Waiting,
 }
 
-// A session, the line that it is reading, and whether there is more to read.
+// A session, the line that it is reading, whether there is more to read, and how many more reads may deliver something. A proved loop has to
+// end, and nothing says that the input does: they are counted down from a number that no run uses up.
 struct Reading {
     session: Session,
     pending: Pending,
     more: bool,
+    left: u64,
 }
 
 // "`session` lends 4,096 places."
@@ -43,27 +46,34 @@ fn history_places() -> [u32; 4096]
     [0u32; 4096]
 }
 
-// Writes what waits. After a write that failed nothing more is written.
-fn flush(out: &[u8], waiting: Waiting) -> Waiting
-    ensures { λ r. ⌜ r .len ≡ 0 ⌝ }
-    ensures { λ r. ⌜ (waiting .sound ≡ false → r .sound ≡ false) ⌝ }
+// What a write leaves: nothing waits, and whether it went through is known.
+fn emptied(written: bool) -> Waiting
+    ensures { λ r. ⌜ r ≡ record { len = 0; sound = written } ⌝ }
 {
-    let len = waiting.len;
-    let sound = waiting.sound;
-    if !sound {
-        return Waiting { len: 0, sound };
-    }
-    let written = io::write_all(STDOUT_FILENO, framing::front(out, len));
     Waiting {
         len: 0,
         sound: written,
     }
 }
 
+// Writes what waits; only here is anything written. After a write that failed nothing more is.
+fn flush(out: &[u8], waiting: Waiting) -> Waiting
+    ensures { λ r. ⌜ r .len ≡ 0 ⌝ }
+    ensures { λ r. ⌜ FailureKept waiting r ⌝ }
+{
+    let len = waiting.len;
+    let sound = waiting.sound;
+    if !sound {
+        return emptied(false);
+    }
+    emptied(io::write_all(STDOUT_FILENO, framing::front(out, len)))
+}
+
 // An answer line with its line feed, behind those that wait; where there is no room, these are written first.
 fn say(out: &mut [u8], waiting: Waiting, answer: &[u8]) -> Waiting
     ensures { λ r. ⌜ ((said : List ℕ) → length (now (answer .entry)) < length (now (out .entry)) → Waits said (now (out .entry)) waiting →
         Waits (said ++ asText (now (answer .entry) ∷ [])) (now (out .exit)) r) ⌝ }
+    ensures { λ r. ⌜ FailureKept waiting r ⌝ }
 {
     let at = waiting.len;
     let len = framing::put_line(out, at, answer);
@@ -72,9 +82,10 @@ fn say(out: &mut [u8], waiting: Waiting, answer: &[u8]) -> Waiting
         return Waiting { len, sound };
     }
     let flushed = flush(out, waiting);
+    let first = flushed.len;
     let sound = flushed.sound;
     Waiting {
-        len: framing::put_line(out, 0, answer),
+        len: framing::put_line(out, first, answer),
         sound,
     }
 }
@@ -83,6 +94,7 @@ fn say(out: &mut [u8], waiting: Waiting, answer: &[u8]) -> Waiting
 fn list(state: State, out: &mut [u8], waiting: Waiting) -> Waiting
     ensures { λ r. ⌜ ((e : Engine) (h said : List ℕ) → Holds e state h → 64 < length (now (out .entry)) → Waits said (now (out .entry)) waiting →
         Waits (said ++ asText (laterLines e)) (now (out .exit)) r) ⌝ }
+    ensures { λ r. ⌜ FailureKept waiting r ⌝ }
 {
     let mut answer = [0u8; 64];
     let mut after = waiting;
@@ -103,6 +115,7 @@ fn list(state: State, out: &mut [u8], waiting: Waiting) -> Waiting
 fn take_line(session: Session, history: &mut [u32], out: &mut [u8], line: &[u8]) -> Session
     ensures { λ r. ⌜ ((p : Progress) → At p session (now (history .entry)) (now (out .entry)) →
         At (withLine p (now (line .entry))) r (now (history .exit)) (now (out .exit))) ⌝ }
+    ensures { λ r. ⌜ FailureKept (session .waiting) (r .waiting) ⌝ }
 {
     let mut answer = [0u8; 64];
     let reply = engine::line(session.state, history, line, &mut answer);
@@ -128,6 +141,7 @@ fn take_line(session: Session, history: &mut [u32], out: &mut [u8], line: &[u8])
 fn take_pending(session: Session, history: &mut [u32], out: &mut [u8], pending: Pending) -> Session
     ensures { λ r. ⌜ ((p : Progress) (line : List ℕ) → At p session (now (history .entry)) (now (out .entry)) → pending ≡ pendingOf line →
         At (withLine p line) r (now (history .exit)) (now (out .exit))) ⌝ }
+    ensures { λ r. ⌜ FailureKept (session .waiting) (r .waiting) ⌝ }
 {
     let bytes = pending.bytes;
     let len = pending.len;
@@ -136,10 +150,14 @@ fn take_pending(session: Session, history: &mut [u32], out: &mut [u8], pending: 
 
 // The lines that a chunk of the input completes.
 fn take_chunk(reading: Reading, history: &mut [u32], out: &mut [u8], chunk: &[u8]) -> Reading
+    requires { ⌜ 1 ≤ reading .left ⌝ }
     ensures { λ r. ⌜ ((input : List ℕ) → Follows input reading (now (history .entry)) (now (out .entry)) →
         Follows (input ++ now (chunk .entry)) r (now (history .exit)) (now (out .exit))) ⌝ }
     ensures { λ r. ⌜ r .more ≡ true ⌝ }
+    ensures { λ r. ⌜ r .left + 1 ≡ reading .left ⌝ }
+    ensures { λ r. ⌜ FailureKept (reading .session .waiting) (r .session .waiting) ⌝ }
 {
+    let left = reading.left - 1;
     let mut session = reading.session;
     let mut pending = reading.pending;
     let mut from = 0;
@@ -151,6 +169,7 @@ fn take_chunk(reading: Reading, history: &mut [u32], out: &mut [u8], chunk: &[u8
                 session,
                 pending,
                 more: true,
+                left,
             };
         }
         session = take_pending(session, history, out, pending);
@@ -163,59 +182,97 @@ fn take_chunk(reading: Reading, history: &mut [u32], out: &mut [u8], chunk: &[u8
 fn take_last(reading: Reading, history: &mut [u32], out: &mut [u8]) -> Session
     ensures { λ r. ⌜ ((input : List ℕ) → Follows input reading (now (history .entry)) (now (out .entry)) →
         At (sessionOf input) r (now (history .exit)) (now (out .exit))) ⌝ }
+    ensures { λ r. ⌜ FailureKept (reading .session .waiting) (r .waiting) ⌝ }
 {
-    take_pending(reading.session, history, out, reading.pending)
+    let pending = reading.pending;
+    take_pending(reading.session, history, out, pending)
 }
 
-// Writes what waits, reads once, and takes what was read.
-fn turn(reading: Reading, history: &mut [u32], out: &mut [u8], chunk: &mut [u8]) -> Reading
+// What a read call that answered `got` delivered to the front of the chunk; nothing is the end of the input.
+fn take_read(
+    reading: Reading,
+    history: &mut [u32],
+    out: &mut [u8],
+    chunk: &[u8],
+    got: isize,
+) -> Reading
+    requires { ⌜ 1 ≤ reading .left ⌝ }
     ensures { λ r. ⌜ ((input : List ℕ) → Follows input reading (now (history .entry)) (now (out .entry)) →
-        Turned input r (now (history .exit)) (now (out .exit)) (now (chunk .exit))) ⌝ }
+        Received input reading (now (chunk .entry)) got r (now (history .exit)) (now (out .exit))) ⌝ }
+    ensures { λ r. ⌜ FailureKept (reading .session .waiting) (r .session .waiting) ⌝ }
 {
-    let session = reading.session;
-    let pending = reading.pending;
-    let state = session.state;
-    let waiting = flush(out, session.waiting);
-    let sound = waiting.sound;
-    let flushed = Reading {
-        session: Session { state, waiting },
-        pending,
-        more: false,
-    };
-    if !sound {
-        return flushed;
-    }
-    let got = libc::read(STDIN_FILENO, chunk);
     let count = io::count(got, chunk);
     if count == 0 {
+        let pending = reading.pending;
+        let left = reading.left;
         return Reading {
-            session: take_last(flushed, history, out),
+            session: take_last(reading, history, out),
             pending,
             more: false,
+            left,
         };
     }
-    take_chunk(flushed, history, out, framing::front(chunk, count))
+    take_chunk(reading, history, out, framing::front(chunk, count))
 }
 
-// A proved loop has to end, and nothing says that the input does: the turns are counted down from a number that no run uses up.
-fn run(history: &mut [u32], out: &mut [u8], chunk: &mut [u8]) -> Reading
-    ensures { λ r. ⌜ (now (history .entry) ≡ replicate 4096 0 → length (now (out .entry)) ≡ 4096 → Ran r (now (history .exit)) (now (out .exit))) ⌝ }
+// Once what waited is flushed: a write that failed ends the session.
+fn after_flush(reading: Reading, flushed: Waiting) -> Reading
+    ensures { λ r. ⌜ Flushed reading flushed r ⌝ }
 {
-    let mut reading = Reading {
+    let state = reading.session.state;
+    let pending = reading.pending;
+    let left = reading.left;
+    Reading {
+        session: Session {
+            state,
+            waiting: flushed,
+        },
+        pending,
+        more: reading.more && flushed.sound,
+        left,
+    }
+}
+
+// Reads once, takes what was read, and writes what is answered.
+fn turn(reading: Reading, history: &mut [u32], out: &mut [u8], chunk: &mut [u8]) -> Reading
+    requires { ⌜ 1 ≤ reading .left ⌝ }
+    ensures { λ r. ⌜ ((input : List ℕ) → Follows input reading (now (history .entry)) (now (out .entry)) →
+        Turned input reading (now (chunk .exit)) r (now (history .exit)) (now (out .exit))) ⌝ }
+    ensures { λ r. ⌜ FailureKept (reading .session .waiting) (r .session .waiting) ⌝ }
+{
+    let got = libc::read(STDIN_FILENO, chunk);
+    let taken = take_read(reading, history, out, chunk, got);
+    let waiting = taken.session.waiting;
+    let flushed = flush(out, waiting);
+    after_flush(taken, flushed)
+}
+
+// A fresh engine, nothing read, nothing said.
+fn begin() -> Reading
+    ensures { λ r. ⌜ r ≡ firstReading ⌝ }
+{
+    Reading {
         session: Session {
             state: engine::fresh(),
-            waiting: Waiting {
-                len: 0,
-                sound: true,
-            },
+            waiting: emptied(true),
         },
         pending: framing::empty(),
         more: true,
-    };
-    let mut turns = u64::MAX;
-    while turns > 0 && reading.more {
+        left: u64::MAX,
+    }
+}
+
+// Turn after turn, to the end of the input or to a write that failed.
+fn run(history: &mut [u32], out: &mut [u8], chunk: &mut [u8]) -> Reading
+    requires { ⌜ now history ≡ replicate 4096 0 ⌝ }
+    requires { ⌜ length (now out) ≡ 4096 ⌝ }
+    requires { ⌜ length (now chunk) ≡ 65536 ⌝ }
+    ensures { λ r. ⌜ Ran r (now (history .exit)) (now (out .exit)) ⌝ }
+    ensures { λ r. ⌜ (r .more ≡ true → r .left ≡ 0) ⌝ }
+{
+    let mut reading = begin();
+    while reading.more && reading.left > 0 {
         reading = turn(reading, history, out, chunk);
-        turns -= 1;
     }
     reading
 }
@@ -224,7 +281,5 @@ fn main() {
     let mut history = history_places();
     let mut out = io::buffer();
     let mut chunk = io::large_buffer();
-    let last = run(&mut history, &mut out, &mut chunk);
-    let session = last.session;
-    flush(&out, session.waiting);
+    run(&mut history, &mut out, &mut chunk);
 }

@@ -1,13 +1,17 @@
--- After a write that failed there is no further write.
-use mathlib.Core.Path.{refl, sym, _∙_}
+-- Nothing waits after a write, and after one that failed there is no further write.
+use mathlib.Core.Path.{sym, ap, _∙_}
 use mathlib.Core.Bool.{true≢false}
 use borrow.Author.Tests.{not-false}
 use borrow.Author.Needs.{needs}
+use Rattle.session.specs.declared.Waiting.{Waiting}
 use Rattle.session.proofs.flush.Statement.{statement}
 use Rattle.session.proofs.flush.Tie as tie
 
+emptied-requires : tie.Need-emptied-requires
+emptied-requires c κs = search needs
+
 returns : tie.Need-returns
-returns c = search needs
+returns c = let left = c .emptied .ensures in (ap (λ (w : Waiting). w .len) left, λ failed. ap (λ (w : Waiting). w .sound) left)
 
 front-requires : tie.Need-front-requires
 front-requires c κs = search needs
@@ -15,8 +19,22 @@ front-requires c κs = search needs
 write-all-requires : tie.Need-write-all-requires
 write-all-requires c κs = search needs
 
+emptied-requires-2 : tie.Need-emptied-requires-2
+emptied-requires-2 c κs = search needs
+
 returns-2 : tie.Need-returns-2
-returns-2 c = (refl, λ f. absurd (true≢false (sym (not-false _ (c .before .before .if1 .left)) ∙ f)))
+returns-2 c = (
+  ap (λ (w : Waiting). w .len) (c .emptied2 .ensures),
+  λ failed. absurd (true≢false (sym (not-false _ (c .before .before .before .if1 .left)) ∙ failed)),
+)
 
 pub flush-spec : {M : Type 1} → statement M
-flush-spec = tie.close (tie.spec returns front-requires write-all-requires returns-2)
+flush-spec =
+    tie.close
+    (tie.spec
+    emptied-requires
+    returns
+    front-requires
+    write-all-requires
+    emptied-requires-2
+    returns-2)

@@ -1,46 +1,41 @@
--- Turn after turn the session goes on with what is read. The measure is the number of turns that are left.
-use mathlib.Core.Path.{_≡_, refl}
-use lib.ListN.{length, replicate}
-use Rattle.session.specs.Session.{Ran}
-use Rattle.session.proofs.TurnsTaken.{runs-on, run-begins}
+-- Turn after turn the session goes on with what is read. The measure is the number of reads that are left, and one more as long as there is more.
+use mathlib.Core.Path.{_≡_, refl, sym, _∙_}
+use mathlib.Core.Bool.{true≢false}
+use native.Mathlib.Omega.{arith}
+use lib.ListN.{length}
+use borrow.Author.Tests.{ltb-true, ltb-false}
+use Rattle.session.specs.Program.{Ran}
+use Rattle.session.proofs.TurnsTaken.{ahead, runs-on, turn-nears, run-begins}
 use borrow.Author.Needs.{needs}
 use Rattle.session.proofs.run.Statement.{statement}
 use Rattle.session.proofs.run.Tie as tie
 
 abbrev Inv-loop : tie.InvT-loop
-Inv-loop history₀ out₀ chunk₀ reading₀ turns₀ history out chunk reading turns =
-    (length history ≡ length history₀) × (length out ≡ length out₀) × (length chunk ≡ length chunk₀)
-    × (history₀ ≡ replicate 4096 0 → length out₀ ≡ 4096 → Ran reading history out)
+Inv-loop history₀ out₀ chunk₀ reading₀ history out chunk reading =
+    (length history ≡ length history₀) × (length out ≡ length out₀) × (length chunk ≡ length chunk₀) × Ran reading history out
 
 abbrev μ-loop : tie.MeasureT-loop
-μ-loop history₀ out₀ chunk₀ reading₀ turns₀ history out chunk reading turns = turns
+μ-loop history₀ out₀ chunk₀ reading₀ history out chunk reading = ahead reading
 
-fresh-requires : tie.Need-fresh-requires Inv-loop μ-loop
-fresh-requires c κs = search needs
-
-empty-requires : tie.Need-empty-requires Inv-loop μ-loop
-empty-requires c κs = search needs
+begin-requires : tie.Need-begin-requires Inv-loop μ-loop
+begin-requires c κs = search needs
 
 loop-holds : tie.Need-loop-holds Inv-loop μ-loop
-loop-holds c = (refl, refl, refl, λ places size. run-begins _ _ (c .before .fresh .ensures) (c .empty .ensures) places size)
+loop-holds c = let pre = c .before .before .before .before .pre in (refl, refl, refl, run-begins (c .begin .ensures) (pre .0) (pre .1 .0))
 
 turn-requires : tie.Need-turn-requires Inv-loop μ-loop
-turn-requires c κs = search needs
-
-sub-turns : tie.Need-sub-turns Inv-loop μ-loop
-sub-turns c = search needs
+turn-requires c κs = omega (arith, ltb-true)
 
 loop-less : tie.Need-loop-less Inv-loop μ-loop
-loop-less c = search needs
+loop-less c = omega (arith, turn-nears (c .before .before .before .before .before .before .before .before .before .before .before .before .before .loop .inv .3) (c .before .before .before .before .before .before .before .before .before .before .before .before .loop-test .taken) (c .before .before .before .before .before .before .turn .ensures .0))
 
 loop-again : tie.Need-loop-again Inv-loop μ-loop
-loop-again c =
-    let loop = c .before .before .before .before .before .before .before .before .before .before .before .before .loop in (
-      search needs,
-      search needs,
-      search needs,
-      λ places size. runs-on (loop .inv .3 places size) (c .before .before .before .before .before .before .before .before .before .before .if1 .taken) (c .before .before .before .before .before .before .turn .ensures),
-    )
+loop-again c = (
+  search needs,
+  search needs,
+  search needs,
+  runs-on (c .before .before .before .before .before .before .before .before .before .before .before .before .before .loop .inv .3) (c .before .before .before .before .before .before .before .before .before .before .before .before .loop-test .taken) (c .before .before .before .before .before .before .turn .ensures .0),
+)
 
 same-length : tie.Need-same-length Inv-loop μ-loop
 same-length c = search needs
@@ -52,7 +47,7 @@ same-length-3 : tie.Need-same-length-3 Inv-loop μ-loop
 same-length-3 c = search needs
 
 returns : tie.Need-returns Inv-loop μ-loop
-returns c = c .before .before .loop .inv .3
+returns c = (c .before .before .before .loop .inv .3, λ more. omega (arith, ltb-false))
 
 same-length-4 : tie.Need-same-length-4 Inv-loop μ-loop
 same-length-4 c = search needs
@@ -64,7 +59,7 @@ same-length-6 : tie.Need-same-length-6 Inv-loop μ-loop
 same-length-6 c = search needs
 
 returns-2 : tie.Need-returns-2 Inv-loop μ-loop
-returns-2 c = c .before .loop .inv .3
+returns-2 c = (c .before .loop .inv .3, λ more. absurd (true≢false (sym more ∙ c .loop-test .left)))
 
 pub run-spec : {M : Type 1} → statement M
 run-spec =
@@ -72,11 +67,9 @@ run-spec =
     (tie.spec
     Inv-loop
     μ-loop
-    fresh-requires
-    empty-requires
+    begin-requires
     loop-holds
     turn-requires
-    sub-turns
     loop-less
     loop-again
     same-length

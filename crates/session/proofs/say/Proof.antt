@@ -11,7 +11,7 @@ same-length : tie.Need-same-length
 same-length c = search needs
 
 returns : tie.Need-returns
-returns c = λ said less w. line-waits w _ (c .before .before .before .put-line .ensures) (c .if1 .taken)
+returns c = (λ said less w. line-waits w _ (c .before .before .before .put-line .ensures) (c .if1 .taken), λ failed. failed)
 
 flush-requires : tie.Need-flush-requires
 flush-requires c κs = search needs
@@ -23,7 +23,11 @@ same-length-2 : tie.Need-same-length-2
 same-length-2 c = search needs
 
 returns-2 : tie.Need-returns-2
-returns-2 c = λ said less w. first-waits w (c .before .before .before .before .before .before .before .before .before .put-line .ensures) (c .before .before .before .before .before .before .if1 .left) (c .before .before .put-line2 .ensures) less
+returns-2 c =
+    let flushed = c .before .before .before .before .flush in (
+      λ said less w. first-waits w (c .before .before .before .before .before .before .before .before .before .put-line .ensures) (c .before .before .before .before .before .before .if1 .left) (c .before .before .put-line2 .ensures) (search needs) less,
+      λ failed. let stays = flushed .ensures .1 failed in search needs,
+    )
 
 pub say-spec : {M : Type 1} → statement M
 say-spec =

@@ -6,21 +6,26 @@ use native.Mathlib.Omega.{arith}
 use lib.ListN.{length}
 use borrow.Author.Tests.{not-true, not-false}
 use Rattle.framing.proofs.Scans.{scan-goes-on}
+use Rattle.session.specs.Program.{FailureKept}
 use Rattle.session.proofs.ChunkTaken.{Amid, chunk-begun, chunk-ended, line-ended}
 use borrow.Author.Needs.{needs}
 use Rattle.session.proofs.take_chunk.Statement.{statement}
 use Rattle.session.proofs.take_chunk.Tie as tie
 
 abbrev Inv-loop : tie.InvT-loop
-Inv-loop history₀ out₀ chunk session₀ pending₀ from₀ history out session pending from =
+Inv-loop history₀ out₀ chunk left session₀ pending₀ from₀ history out session pending from =
     (length history ≡ length history₀) × (length out ≡ length out₀)
     × ((input : List ℕ) → Amid input chunk from₀ session₀ pending₀ history₀ out₀ → Amid input chunk from session pending history out)
+    × FailureKept (session₀ .waiting) (session .waiting)
 
 abbrev μ-loop : tie.MeasureT-loop
-μ-loop history₀ out₀ chunk session₀ pending₀ from₀ history out session pending from = length chunk - from
+μ-loop history₀ out₀ chunk left session₀ pending₀ from₀ history out session pending from = length chunk - from
+
+sub-left : tie.Need-sub-left Inv-loop μ-loop
+sub-left c = search needs
 
 loop-holds : tie.Need-loop-holds Inv-loop μ-loop
-loop-holds c = (refl, refl, λ input a. a)
+loop-holds c = (refl, refl, λ input a. a, λ failed. failed)
 
 scan-requires : tie.Need-scan-requires Inv-loop μ-loop
 scan-requires c κs = search needs
@@ -34,11 +39,11 @@ same-length-2 c = search needs
 returns : tie.Need-returns Inv-loop μ-loop
 returns c =
     let loop = c .before .before .before .before .loop in
-    let args = c .before .before .before .before .before .before .before .before .before .before .args in (
+    let start = c .before .before .before .before .before .before .before .before .before .before .before in (
       λ input f.
-          chunk-ended input (args .chunk .now) (loop .from) (loop .session) (loop .pending) (loop .history) (loop .out) _ (c .before .before .before .scan .ensures)
-          (loop .inv .2 input (chunk-begun input (args .chunk .now) (args .reading) _ _ f)) (not-true _ (c .if1 .taken)),
-      refl,
+          chunk-ended input (start .args .chunk .now) (loop .from) (loop .session) (loop .pending) (loop .history) (loop .out) _ (c .before .before .before .scan .ensures)
+          (loop .inv .2 input (chunk-begun input (start .args .chunk .now) (start .args .reading) _ _ f)) (not-true _ (c .if1 .taken)),
+      (refl, (omega (arith, start .pre), loop .inv .3)),
     )
 
 take-pending-requires : tie.Need-take-pending-requires Inv-loop μ-loop
@@ -51,18 +56,20 @@ loop-less : tie.Need-loop-less Inv-loop μ-loop
 loop-less c =
     let scan = c .before .before .before .before .before .before .before .before .before .before .before .scan in
     let loop = c .before .before .before .before .before .before .before .before .before .before .before .before .loop in
-    let on = scan-goes-on (c .before .before .before .before .before .before .before .before .before .before .before .before .before .before .before .before .before .before .args .chunk .now) (loop .from) (loop .pending) (scan .ensures) (not-false _ (c .before .before .before .before .before .before .before .before .if1 .left)) in
+    let on = scan-goes-on (c .before .before .before .before .before .before .before .before .before .before .before .before .before .before .before .before .before .before .before .args .chunk .now) (loop .from) (loop .pending) (scan .ensures) (not-false _ (c .before .before .before .before .before .before .before .before .if1 .left)) in
     omega (arith, on .0, on .1)
 
 loop-again : tie.Need-loop-again Inv-loop μ-loop
 loop-again c =
     let scan = c .before .before .before .before .before .before .before .before .before .before .before .scan in
-    let loop = c .before .before .before .before .before .before .before .before .before .before .before .before .loop in (
+    let loop = c .before .before .before .before .before .before .before .before .before .before .before .before .loop in
+    let taken = c .before .before .before .before .before .take-pending in (
       search needs,
       search needs,
       λ input a.
-          line-ended input (c .before .before .before .before .before .before .before .before .before .before .before .before .before .before .before .before .before .before .args .chunk .now) (loop .from) (loop .session) (loop .pending) (loop .history) (loop .out) (scan .result)
-          (scan .ensures) (loop .inv .2 input a) (not-false _ (c .before .before .before .before .before .before .before .before .if1 .left)) (c .empty .ensures) (c .before .before .before .before .before .take-pending .ensures),
+          line-ended input (c .before .before .before .before .before .before .before .before .before .before .before .before .before .before .before .before .before .before .before .args .chunk .now) (loop .from) (loop .session) (loop .pending) (loop .history) (loop .out) (scan .result)
+          (scan .ensures) (loop .inv .2 input a) (not-false _ (c .before .before .before .before .before .before .before .before .if1 .left)) (c .empty .ensures) (taken .ensures .0),
+      λ failed. taken .ensures .1 (loop .inv .3 failed),
     )
 
 pub take-chunk-spec : {M : Type 1} → statement M
@@ -71,6 +78,7 @@ take-chunk-spec =
     (tie.spec
     Inv-loop
     μ-loop
+    sub-left
     loop-holds
     scan-requires
     same-length

@@ -1,4 +1,5 @@
 -- The line that was begun is the last of the input's lines, unless it has no bytes.
+use mathlib.Core.Path.{refl}
 use Rattle.session.proofs.ChunkTaken.{input-ended}
 use borrow.Author.Needs.{needs}
 use Rattle.session.proofs.take_last.Statement.{statement}
@@ -14,7 +15,7 @@ same-length-2 : tie.Need-same-length-2
 same-length-2 c = search needs
 
 returns : tie.Need-returns
-returns c = λ input f. input-ended input (c .before .before .before .before .before .before .before .before .before .args .reading) _ _ f (c .before .before .before .before .take-pending .ensures)
+returns c = let taken = c .before .before .before .before .take-pending in (λ input f. input-ended input _ _ _ f (taken .ensures .0) refl, taken .ensures .1)
 
 pub take-last-spec : {M : Type 1} → statement M
 take-last-spec = tie.close (tie.spec take-pending-requires same-length same-length-2 returns)

@@ -14,7 +14,10 @@ same-length : tie.Need-same-length
 same-length c = search needs
 
 returns : tie.Need-returns
-returns c = λ p at. line-skipped p _ _ _ _ at (c .before .before .before .before .before .before .line .ensures) (search needs) (search needs) (c .if1 .taken)
+returns c = (
+  λ p at. line-skipped p _ _ _ _ at (c .before .before .before .before .before .before .line .ensures) (search needs) (search needs) (c .if1 .taken),
+  λ failed. failed,
+)
 
 slice-aggregate-front : tie.Need-slice-aggregate-front
 slice-aggregate-front c = search needs
@@ -35,9 +38,15 @@ same-length-3 : tie.Need-same-length-3
 same-length-3 c = search needs
 
 returns-2 : tie.Need-returns-2
-returns-2 c = λ p at.
-    line-listed p _ _ _ _ at (c .before .before .before .before .before .before .before .before .before .before .before .before .before .before .before .before .before .line .ensures) (search needs) (search needs) (c .before .before .before .before .before .before .before .before .before .before .before .if1 .left) (c .before .before .before .before .before .before .before .say .ensures)
-    (c .before .before .before .before .before .before .before .before .front .ensures) (search needs) (search needs) (c .before .before .list .ensures)
+returns-2 c =
+    let line = c .before .before .before .before .before .before .before .before .before .before .before .before .before .before .before .before .before .line in
+    let said = c .before .before .before .before .before .before .before .say in
+    let listed = c .before .before .list in (
+      λ p at.
+          line-listed p _ _ _ _ at (line .ensures) (search needs) (search needs) (c .before .before .before .before .before .before .before .before .before .before .before .if1 .left) (said .ensures .0)
+          (search needs) (search needs) (search needs) (listed .ensures .0),
+      λ failed. listed .ensures .1 (said .ensures .1 failed),
+    )
 
 same-length-4 : tie.Need-same-length-4
 same-length-4 c = search needs
@@ -46,9 +55,14 @@ same-length-5 : tie.Need-same-length-5
 same-length-5 c = search needs
 
 returns-3 : tie.Need-returns-3
-returns-3 c = λ p at.
-    line-said p _ _ _ _ at (c .before .before .before .before .before .before .before .before .before .before .before .before .before .line .ensures) (search needs) (search needs) (c .before .before .before .before .before .before .before .if1 .left) (c .before .before .before .say .ensures)
-    (c .before .before .before .before .front .ensures) (c .if2 .left) (search needs)
+returns-3 c =
+    let line = c .before .before .before .before .before .before .before .before .before .before .before .before .before .line in
+    let said = c .before .before .before .say in (
+      λ p at.
+          line-said p _ _ _ _ at (line .ensures) (search needs) (search needs) (c .before .before .before .before .before .before .before .if1 .left) (said .ensures .0) (search needs) (c .if2 .left)
+          (search needs),
+      said .ensures .1,
+    )
 
 pub take-line-spec : {M : Type 1} → statement M
 take-line-spec =

@@ -22,9 +22,14 @@ same-length-2 : tie.Need-same-length-2
 same-length-2 c = search needs
 
 returns : tie.Need-returns
-returns c = λ p line at is.
-    let same = ap (withLine p) (c .before .before .before .before .before .front .ensures) ∙ kept-taken p line _ is in
-    rw same at (c .before .before .before .before .take-line .ensures p at)
+returns c =
+    let front = c .before .before .before .before .before .front in
+    let taken = c .before .before .before .before .take-line in (
+      λ p line at is.
+          let same = ap (withLine p) (front .ensures) ∙ kept-taken p line _ is in
+          rw same at (taken .ensures .0 p at),
+      taken .ensures .1,
+    )
 
 pub take-pending-spec : {M : Type 1} → statement M
 take-pending-spec =
