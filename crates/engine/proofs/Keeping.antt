@@ -18,7 +18,8 @@ use Rattle.lines.specs.Readings.{readingOf}
 use Rattle.answers.specs.declared.Answer.{Answer}
 use Rattle.engine.specs.declared.State.{State}
 use Rattle.engine.specs.declared.Reply.{Reply}
-use Rattle.engine.specs.Engine.{Loaded, Engine, freshEngine, Sound}
+use Rattle.engine.specs.Engine.{Loaded, Engine, freshEngine}
+use Rattle.engine.specs.Soundness.{Sound}
 use Rattle.refusals.specs.Refusals.{places}
 use Rattle.engine.specs.Response.{circuitOf, gatesOf}
 use Rattle.engine.specs.State.{encode, Holds}

@@ -18,7 +18,7 @@ use Rattle.circuit.specs.Colours.{first, second}
 use Rattle.circuit.specs.Sum.{Basis}
 use Rattle.circuit.specs.Polynomial.{Polynomial, polynomial}
 use Rattle.slices.specs.Packing.{strings, Tabled}
-use Rattle.slices.specs.Totals.{amplitudeAfter, readoutAfter, readoutCount}
+use Rattle.slices.specs.Totals.{amplitudeAfter, readoutAfter}
 use Rattle.slices.proofs.Bounds.{amplitudeAfter-bound}
 use Rattle.slices.proofs.OutcomeTests.{abs-fits}
 use Rattle.answers.specs.declared.Answer.{Answer}
@@ -26,7 +26,8 @@ use Rattle.answers.specs.declared.Answer.the-variants as Answer
 use Rattle.engine.specs.declared.Kind.the-variants as Kind
 use Rattle.engine.specs.declared.State.{State}
 use Rattle.engine.specs.declared.Sum.{Sum}
-use Rattle.engine.specs.Engine.{Circuit, Purpose, amplitude, readout, OpenSum, closed, running, present, SoundCircuit}
+use Rattle.engine.specs.Engine.{Circuit, Purpose, amplitude, readout, OpenSum, closed, running, present}
+use Rattle.engine.specs.Soundness.{SoundCircuit}
 use Rattle.engine.specs.Response.{outputOf, Turn, total, stepped}
 use Rattle.engine.specs.State.{tableFor, sumState, encodeSum, encodeLoaded}
 use Rattle.engine.proofs.SumState.{positions-held, sum-held, worked-held, table-held, is-amplitude, is-readout}

@@ -18,7 +18,8 @@ use Rattle.engine.specs.declared.Kind.{Kind}
 use Rattle.engine.specs.declared.Kind.the-variants as Kind
 use Rattle.engine.specs.declared.State.{State}
 use Rattle.engine.specs.declared.Sum.{Sum}
-use Rattle.engine.specs.Engine.{Circuit, Purpose, amplitude, readout, OpenSum, Opened, running, present, SoundCircuit}
+use Rattle.engine.specs.Engine.{Circuit, Purpose, amplitude, readout, OpenSum, Opened, running, present}
+use Rattle.engine.specs.Soundness.{SoundCircuit}
 use Rattle.engine.specs.Response.{outputOf, outputWith, opening}
 use Rattle.engine.specs.State.{numbersOf, tableFor, kindOf, sumState, encodeSum, encodeLoaded}
 

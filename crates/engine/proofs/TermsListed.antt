@@ -23,7 +23,8 @@ use Rattle.answers.specs.declared.Answer.the-variants as Answer
 use Rattle.answers.specs.Answers.{bytesOf}
 use Rattle.refusals.specs.Refusals.{orElse, refusedIf, classNumber, isClass, works, momentRefusal, within, allInRange, anyOnItself, outOfRange, anyNotLong, operandRefusal, places, undoesMore, historyRefusal, rowRefusal, refusalBy}
 use Rattle.engine.specs.declared.Reply.{Reply}
-use Rattle.engine.specs.Engine.{Circuit, closed, running, Loaded, absent, present, Engine, Sound, SoundCircuit}
+use Rattle.engine.specs.Engine.{Circuit, closed, running, Loaded, absent, present, Engine}
+use Rattle.engine.specs.Soundness.{Sound, SoundCircuit}
 use Rattle.engine.specs.Response.{termsOf, accepted, hasCircuit, circuitOf, openedOf, isRunning, refusalOf, turnBy, turnOf}
 use Rattle.engine.specs.Calls.{refusalNumber, hasLines, answering, tooShort, response, Given, entryBytes, lineNumbered, laterLine, fetchedBytes}
 use Rattle.engine.proofs.Outcomes.{bytes-given}

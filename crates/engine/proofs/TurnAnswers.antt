@@ -23,7 +23,8 @@ use Rattle.lines.proofs.Readings.{refused-among}
 use Rattle.answers.specs.Answers.{bytesOf}
 use Rattle.answers.proofs.Lengths.{Modest, answer-fits}
 use Rattle.refusals.specs.Refusals.{orElse, refusedIf, momentRefusal, operandRefusal, historyRefusal, rowRefusal, refusalBy}
-use Rattle.engine.specs.Engine.{Circuit, Purpose, amplitude, readout, OpenSum, Opened, closed, running, Loaded, Sound}
+use Rattle.engine.specs.Engine.{Circuit, Purpose, amplitude, readout, OpenSum, Opened, closed, running, Loaded}
+use Rattle.engine.specs.Soundness.{Sound}
 use Rattle.engine.specs.Response.{Turn, newCircuit, withGates, withoutLast, withNewStart, opening, total, stepped, stepOf, withoutSum, termsOf, accepted, circuitOf, openedOf, refusalOf, turnBy, turnOf}
 use Rattle.engine.proofs.TurnRefused.{positions-most}
 

@@ -16,7 +16,8 @@ use Rattle.answers.specs.declared.Answer.{Answer}
 use Rattle.answers.specs.declared.Answer.the-variants as Answer
 use Rattle.refusals.specs.Refusals.{refusalBy}
 use Rattle.engine.specs.declared.State.{State}
-use Rattle.engine.specs.Engine.{Circuit, Purpose, amplitude, readout, OpenSum, Opened, closed, running, Loaded, absent, present, Engine, Sound}
+use Rattle.engine.specs.Engine.{Circuit, Purpose, amplitude, readout, OpenSum, Opened, closed, running, Loaded, absent, present, Engine}
+use Rattle.engine.specs.Soundness.{Sound}
 use Rattle.engine.specs.Response.{Turn, newCircuit, withGates, withoutLast, withNewStart, opening, total, stepped, stepOf, withoutSum, termsOf, accepted, hasCircuit, circuitOf, openedOf, isRunning, gatesOf, refusalOf, turnBy, turnOf}
 use Rattle.engine.specs.State.{noSum, sumState, encodeSum, encodeLoaded, encode, Holds}
 use Rattle.engine.specs.Calls.{refusalNumber}

@@ -33,7 +33,8 @@ use Rattle.answers.specs.declared.Answer.{Answer}
 use Rattle.refusals.specs.Refusals.{classNumber, isClass, allInRange, places, undoesMore, refusalBy}
 use Rattle.refusals.proofs.RowsHeld.{number-inside, held-inside}
 use Rattle.engine.specs.declared.State.{State}
-use Rattle.engine.specs.Engine.{amplitude, readout, Circuit, Opened, Loaded, absent, present, Engine, Sound, SoundCircuit}
+use Rattle.engine.specs.Engine.{amplitude, readout, Circuit, Opened, Loaded, absent, present, Engine}
+use Rattle.engine.specs.Soundness.{Sound, SoundCircuit}
 use Rattle.engine.specs.Response.{newCircuit, withGates, withoutLast, withNewStart, asNumbers, opening, besideUnread, stepOf, withoutSum, termsOf, accepted, hasCircuit, circuitOf, openedOf, isRunning, gatesOf, refusalOf}
 use Rattle.engine.specs.State.{encodeLoaded, encode}
 use Rattle.engine.specs.Calls.{stored}

@@ -1,12 +1,10 @@
 -- The abstract engine: what a session is at any moment (document 01, "Bracket lines").
-use mathlib.Core.Bool.{Bool, true, false}
+use mathlib.Core.Bool.{Bool, false}
 use mathlib.Core.List.{List}
-use mathlib.Core.Path.{_≡_}
-use Prim.Native.Nat.{ℕ, _^_, _≤_, _<_}
+use Prim.Native.Nat.{ℕ}
 use Rattle.circuit.specs.declared.Colour.{Colour}
 use Rattle.circuit.specs.declared.Gate.{Gate}
 use Rattle.circuit.specs.Colours.{Three}
-use Rattle.circuit.specs.Sum.{areGates}
 
 -- A string for each colour, each as the number that it is with position 1 the highest digit.
 abbrev pub Strings : Type 0
@@ -47,24 +45,3 @@ pub record Engine : Type 0 where
 -- "a fresh engine (no circuit)"
 unfoldable pub freshEngine : Engine
 freshEngine = record { loaded = absent; listed = false }
-
--- ---- engines as the calls leave them
-
-pub record SoundSum (m : ℕ) (o : OpenSum) : Type 0 where
-  pub gates : areGates m (o .gates) ≡ true
-  pub worked : o .worked < 2 ^ m
-
-abbrev pub SoundOpened : ℕ → Opened → Type 0
-SoundOpened m closed = Unit {0}
-SoundOpened m (running o) = SoundSum m o
-
--- m from 1 to 16, gates that such a circuit has, slices left in an open sum.
-pub record SoundCircuit (c : Circuit) (o : Opened) : Type 0 where
-  pub least : 1 ≤ c .m
-  pub most : c .m ≤ 16
-  pub gates : areGates (c .m) (c .gates) ≡ true
-  pub opened : SoundOpened (c .m) o
-
-abbrev pub Sound : Loaded → Type 0
-Sound absent = Unit {0}
-Sound (present c o) = SoundCircuit c o

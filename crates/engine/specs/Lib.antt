@@ -1,4 +1,5 @@
 pub mod Engine
+pub mod Soundness
 pub mod Response
 pub mod State
 pub mod Calls

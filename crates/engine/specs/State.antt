@@ -14,7 +14,8 @@ use Rattle.engine.specs.declared.Kind.{Kind}
 use Rattle.engine.specs.declared.Kind.the-variants as Kind
 use Rattle.engine.specs.declared.Sum.{Sum}
 use Rattle.engine.specs.declared.State.{State}
-use Rattle.engine.specs.Engine.{Strings, Purpose, amplitude, readout, OpenSum, Opened, closed, running, Loaded, absent, present, Engine, Sound}
+use Rattle.engine.specs.Engine.{Strings, Purpose, amplitude, readout, OpenSum, Opened, closed, running, Loaded, absent, present, Engine}
+use Rattle.engine.specs.Soundness.{Sound}
 use Rattle.refusals.specs.Refusals.{places}
 use Rattle.engine.specs.Response.{noStrings, outputOf, amplitudeAt, countAt, gatesOf}
 

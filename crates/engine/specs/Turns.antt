@@ -14,7 +14,8 @@ use Rattle.answers.specs.declared.Answer.the-variants as Answer
 use Rattle.engine.specs.declared.Kind.{Kind}
 use Rattle.engine.specs.declared.Kind.the-variants as Kind
 use Rattle.engine.specs.declared.State.{State}
-use Rattle.engine.specs.Engine.{Circuit, Opened, present, Engine, SoundCircuit}
+use Rattle.engine.specs.Engine.{Circuit, Opened, present, Engine}
+use Rattle.engine.specs.Soundness.{SoundCircuit}
 use Rattle.engine.specs.Response.{Turn, withGates, circuitOf, openedOf, gatesOf, refusalOf, accepted, turnOf}
 use Rattle.engine.specs.State.{encodeLoaded, Holds}
 use Rattle.engine.specs.Calls.{refusalNumber, stored}

@@ -7,7 +7,8 @@ use mathlib.Core.List.{List, [], _∷_, _++_, append-nil, append-assoc}
 use Rattle.gf2.proofs.Impossible.{never}
 use lib.Dec.{eqb}
 use lib.ListN.{length, drop}
-use Rattle.framing.specs.Framing.{upToFeed, hasFeed, linesAfter}
+use Rattle.framing.specs.Lines.{linesAfter}
+use Rattle.framing.specs.Framing.{upToFeed, hasFeed}
 
 -- The first line feed ends the line that was begun.
 pub first-line : (begun l input : List ℕ) → hasFeed l ≡ true →

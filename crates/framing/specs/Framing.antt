@@ -1,4 +1,4 @@
--- Input as lines (document 01, "Bracket lines"), and the line that is being read, in constant memory.
+-- The line that is being read, in constant memory, and a chunk of input scanned for its end. Inner promises only.
 use mathlib.Core.Bool.{Bool, true, false, cond}
 use mathlib.Core.Path.{_≡_}
 use mathlib.Core.List.{List, [], _∷_, _++_}
@@ -18,15 +18,6 @@ upToFeed (x ∷ xs) = cond (eqb x 10) [] (x ∷ upToFeed xs)
 unfoldable pub hasFeed : List ℕ → Bool
 hasFeed [] = false
 hasFeed (x ∷ xs) = cond (eqb x 10) true (hasFeed xs)
-
--- "Input is lines of bytes ended by line feed (byte 10); a last line without one counts too." The lines of an input, after the bytes of a
--- line that was begun before it.
-unfoldable pub linesAfter : List ℕ → List ℕ → List (List ℕ)
-linesAfter begun [] = cond (eqb (length begun) 0) [] (begun ∷ [])
-linesAfter begun (x ∷ xs) = cond (eqb x 10) (begun ∷ linesAfter [] xs) (linesAfter (begun ++ (x ∷ [])) xs)
-
-unfoldable pub linesOf : List ℕ → List (List ℕ)
-linesOf input = linesAfter [] input
 
 -- A line longer than 1,024 bytes is refused by 2, whatever else stands in it: 1,025 of its bytes are kept.
 unfoldable pub clipped : List ℕ → List ℕ

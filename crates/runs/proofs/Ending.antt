@@ -29,7 +29,7 @@ pub data AmplitudeEnd (s : ℤ) (n : ℕ) : Loaded → Type 0 where
 pub readout-end :
     {room : ℕ} {e e' : Loaded} {r : Reading} {a : Answer} (t n : ℕ) → View room e r e' a →
     a ≡ Answer.Readout t n → ReadoutEnd t n e
-unfolding total outputOf
+unfolding total outputOf readoutCount
 readout-end t n refuses h = never (cc)
 readout-end t n (creates i low high) h = never (cc)
 readout-end t n (adds g v w) h = never (cc)

@@ -13,16 +13,8 @@ use Rattle.engine.specs.State.{encode, Holds}
 use Rattle.engine.specs.Calls.{response, Given, FetchGiven}
 use Rattle.engine.proofs.Keeping.{fresh-held, held-on}
 use Rattle.engine.proofs.Outcomes.{Outcome, silent, spoken, outcome, bytes-given, Shown, shown, bytes-fetched}
-use Rattle.runs.specs.Runs.{LineCall, FetchCall, Call, line, fetch, Kept, Run, answerOf, shownBy, isOk, isLeft, Log, emptyLog, logged, logFrom, logOf}
+use Rattle.runs.specs.Runs.{LineCall, FetchCall, Call, line, fetch, Kept, Run, GivenFrom, answerOf, shownBy, isOk, isLeft, Log, emptyLog, logged, logFrom, logOf}
 use Rattle.runs.proofs.Following.{bookOf, Follows, loggedBy, logged-by, logged-quiet, followed}
-
--- Calls that do, one after the other, what is given from an engine and its history.
-abbrev pub GivenFrom : Engine → List ℕ → List Call → Type 0
-GivenFrom e h [] = Unit {0}
-GivenFrom e h (line c ∷ cs) =
-    Given e h (c .line) (c .buffer) (c .reply) (c .history) (c .written)
-    × GivenFrom (response e h (c .line) (length (c .buffer)) .after) (c .history) cs
-GivenFrom e h (fetch f ∷ cs) = FetchGiven e (f .number) (f .buffer) (f .fetched) (f .written) × GivenFrom e h cs
 
 -- Calls that keep their promises do so.
 kept-given : (e : Engine) (s : State) (h : List ℕ) (calls : List Call) → Holds e s h → Kept s h calls → GivenFrom e h calls

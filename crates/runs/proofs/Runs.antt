@@ -11,13 +11,14 @@ use Rattle.answers.specs.declared.Answer.{Answer}
 use Rattle.answers.specs.declared.Answer.the-variants as Answer
 use Rattle.answers.specs.Answers.{bytesOf}
 use Rattle.answers.proofs.Answers.{answers-unique}
-use Rattle.engine.specs.Engine.{Circuit, Purpose, amplitude, readout, OpenSum, running, Loaded, present, Sound, freshEngine}
+use Rattle.engine.specs.Engine.{Circuit, Purpose, amplitude, readout, OpenSum, running, Loaded, present, freshEngine}
+use Rattle.engine.specs.Soundness.{Sound}
 use Rattle.engine.proofs.Outcomes.{Outcome, silent, spoken, Shown, nothing, term}
-use Rattle.runs.specs.Runs.{LineCall, Call, line, fetch, Run, answerOf, Part, last, logOf, Log, holds, allZeros, Answers, Opening, Amplitude, SoundRun}
+use Rattle.runs.specs.Runs.{LineCall, Call, line, fetch, Run, GivenFrom, answerOf, Part, last, logOf, Log, holds, allZeros, Answers, Opening, Amplitude, SoundRun}
 use Rattle.runs.proofs.Following.{enteredOf, PartNoted, AmpNoted, NotedFor, Follows}
 use Rattle.runs.proofs.Ending.{ReadoutEnd, counted, AmplitudeEnd, summed, readout-end, amplitude-end}
 use Rattle.runs.proofs.Counts.{Counted, noted-count, counted-exact, counted-total, noted-amplitude}
-use Rattle.runs.proofs.Moments.{GivenFrom, run-given, Moment, done, fetch-shown, moment}
+use Rattle.runs.proofs.Moments.{run-given, Moment, done, fetch-shown, moment}
 use Rattle.runs.proofs.Steps.{steps-end}
 
 -- ---- an answer that is a total ended a sum

@@ -28,9 +28,9 @@ use Rattle.answers.specs.Answers.{bytesOf}
 use Rattle.engine.specs.declared.State.{State}
 use Rattle.engine.specs.declared.Reply.{Reply}
 use Rattle.engine.specs.declared.Fetched.{Fetched}
-use Rattle.engine.specs.Engine.{freshEngine}
+use Rattle.engine.specs.Engine.{Engine, freshEngine}
 use Rattle.engine.specs.State.{encode}
-use Rattle.engine.specs.Calls.{Answered, FetchAnswered}
+use Rattle.engine.specs.Calls.{response, Given, Answered, FetchGiven, FetchAnswered}
 
 -- ---- "A run is a list of lines of any bytes, every form, refused and empty lines included, with fetches between, from a fresh engine (no
 -- circuit) on a lent history of any length, each call on an answer buffer of any length."
@@ -61,6 +61,14 @@ Kept s h (fetch f ∷ cs) = FetchAnswered s (f .number) (f .buffer) (f .fetched)
 
 abbrev pub Run : List ℕ → List Call → Type 0
 Run h cs = Kept (encode freshEngine) h cs
+
+-- The same from an engine and its history: what each call gives is what `response` says.
+abbrev pub GivenFrom : Engine → List ℕ → List Call → Type 0
+GivenFrom e h [] = Unit {0}
+GivenFrom e h (line c ∷ cs) =
+    Given e h (c .line) (c .buffer) (c .reply) (c .history) (c .written)
+    × GivenFrom (response e h (c .line) (length (c .buffer)) .after) (c .history) cs
+GivenFrom e h (fetch f ∷ cs) = FetchGiven e (f .number) (f .buffer) (f .fetched) (f .written) × GivenFrom e h cs
 
 -- ---- "An accepted circuit is what this book holds, fed only the lines and their answers"
 

@@ -11,7 +11,8 @@ use borrow.Author.Tests.{ne-eqb}
 use Rattle.engine.specs.Calls.{response, skipped}
 use Rattle.framing.specs.declared.Pending.{Pending}
 use Rattle.framing.specs.declared.Frame.{Frame}
-use Rattle.framing.specs.Framing.{upToFeed, hasFeed, linesAfter, linesOf, pendingOf, scanned}
+use Rattle.framing.specs.Lines.{linesAfter, linesOf}
+use Rattle.framing.specs.Framing.{upToFeed, hasFeed, pendingOf, scanned}
 use Rattle.framing.proofs.Clipped.{pending-joined}
 use Rattle.framing.proofs.LinesCut.{first-line, no-line-yet}
 use Rattle.session.specs.declared.Session.{Session}

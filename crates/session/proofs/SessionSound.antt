@@ -11,12 +11,12 @@ use borrow.Author.Tests.{ne-eqb}
 use Rattle.answers.specs.Answers.{infront}
 use Rattle.engine.specs.Engine.{Engine}
 use Rattle.engine.specs.Calls.{Response, response, fetchedBytes}
-use Rattle.runs.specs.Runs.{Call, line, fetch, answerOf, shownBy, SoundRun}
-use Rattle.runs.proofs.Moments.{GivenFrom}
+use Rattle.runs.specs.Runs.{Call, line, fetch, GivenFrom, answerOf, shownBy}
 use Rattle.runs.proofs.Runs.{given-sound}
-use Rattle.framing.specs.Framing.{linesOf}
+use Rattle.framing.specs.Lines.{linesOf}
 use Rattle.session.specs.Session.{asText, laterLines, Progress, begun, answerTo, withResponse, withLine, withLines, sessionOf}
-use Rattle.session.specs.SessionCalls.{lent, lineCallBy, lineCall, fetchCall, fetchCalls, fetchesAfter, callsTo, callsFrom, callsOf, shownText, saidBy}
+use Rattle.session.specs.SessionCalls.{lent, lineCallBy, lineCall, fetchCall, fetchCalls, fetchesAfter, callsTo, callsFrom, callsOf}
+use Rattle.session.specs.SoundSession.{givenLines, shownText, saidBy, SoundSession}
 use Rattle.session.proofs.WhatWaits.{asText-append}
 use Rattle.session.proofs.LaterLines.{line-fetched, later-some}
 use Rattle.session.proofs.AnswerBytes.{skipped-silent, answer-some}
@@ -44,10 +44,25 @@ calls-given p (l ∷ ls) = (
   later-given l _ _ _ (calls-given (withLine p l) ls),
 )
 
--- For every input every readout count that the session answers is exact, and so is every amplitude.
-pub session-sound : (input : List ℕ) → SoundRun (callsOf input)
-unfolding callsOf begun
-session-sound input = given-sound _ (callsOf input) (calls-given begun (linesOf input))
+-- ---- their lines are those of the input
+
+fetches-no-lines : (e : Engine) (n k : ℕ) (rest : List Call) → givenLines (fetchCalls e n k ++ rest) ≡ givenLines rest
+unfolding givenLines fetchCalls
+fetches-no-lines e n zero rest = refl
+fetches-no-lines e n (suc k) rest = fetches-no-lines e (suc n) k rest
+
+later-no-lines : (l : List ℕ) (e : Engine) (rest : List Call) → givenLines (fetchesAfter l e ++ rest) ≡ givenLines rest
+unfolding fetchesAfter
+later-no-lines l e rest = go (eqb (length l) 0)
+  where
+    go : (b : Bool) → givenLines (cond b [] (fetchCalls e 1 (length (laterLines e))) ++ rest) ≡ givenLines rest
+    go true = refl
+    go false = fetches-no-lines e 1 (length (laterLines e)) rest
+
+lines-given : (p : Progress) (ls : List (List ℕ)) → givenLines (callsFrom p ls) ≡ ls
+unfolding givenLines callsFrom callsTo lineCall lineCallBy
+lines-given p [] = refl
+lines-given p (l ∷ ls) = ap (λ (a : List (List ℕ)). l ∷ a) (later-no-lines l _ (callsFrom (withLine p l) ls) ∙ lines-given (withLine p l) ls)
 
 -- ---- what the session says is what they show
 
@@ -112,6 +127,15 @@ calls-said p (l ∷ ls) =
     ∙ sym (append-assoc (p .said) (asText (answerTo l (response (p .engine) (p .history) l 64))) (saidBy (callsFrom (withLine p l) ls)))
     ∙ calls-said (withLine p l) ls
 
-pub session-shows : (input : List ℕ) → saidBy (callsOf input) ≡ sessionOf input .said
+-- For every input every readout count that the session answers is exact, and so is every amplitude.
+pub session-sound : (input : List ℕ) → SoundSession input
 unfolding callsOf sessionOf begun
-session-shows input = calls-said begun (linesOf input)
+session-sound input =
+    let given = calls-given begun (linesOf input) in
+    record {
+      calls = callsOf input;
+      lines = lines-given begun (linesOf input);
+      given = given;
+      said = calls-said begun (linesOf input);
+      sound = given-sound _ (callsOf input) given;
+    }

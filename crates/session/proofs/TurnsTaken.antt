@@ -10,12 +10,13 @@ use native.Mathlib.Omega.{arith}
 use borrow.Author.Tests.{eqb-true, eqb-false}
 use Rattle.io.specs.Counts.{Counts, clamped}
 use Rattle.engine.proofs.Keeping.{fresh-held}
-use Rattle.framing.specs.Framing.{linesOf}
+use Rattle.framing.specs.Lines.{linesOf}
 use Rattle.session.specs.declared.Waiting.{Waiting}
 use Rattle.session.specs.declared.Session.{Session}
 use Rattle.session.specs.declared.Reading.{Reading}
 use Rattle.session.specs.Session.{Progress, begun, withLines, sessionOf}
-use Rattle.session.specs.Program.{At, Follows, delivered, Received, Flushed, Turned, firstReading, EachSome, Ran}
+use Rattle.session.specs.Turns.{delivered, Received, Flushed, Turned, firstReading}
+use Rattle.session.specs.Program.{At, Follows, EachSome, Ran}
 use Rattle.session.proofs.WhatWaits.{waits-nothing}
 
 -- ---- what was read

@@ -19,12 +19,13 @@ use Rattle.lines.specs.Readings.{gatesAfter, typedOf, shapeAs, readingOf}
 use Rattle.answers.specs.Answers.{bytesOf, infront}
 use Rattle.refusals.specs.Refusals.{orElse, refusedIf, classNumber, isClass, works, momentRefusal, within, inRange, allInRange, onItself, anyOnItself, outOfRange, anyNotLong, operandRefusal, places, undoesMore, historyRefusal, rowRefusal, refusalBy}
 use Rattle.engine.specs.Engine.{freshEngine}
-use Rattle.engine.specs.Response.{noStrings, newCircuit, withGates, withoutLast, withNewStart, asNumbers, outputWith, opening, besideUnread, total, stepped, stepOf, withoutSum, termsOf, accepted, hasCircuit, circuitOf, openedOf, isRunning, refusalOf, turnBy, turnOf}
+use Rattle.engine.specs.Response.{noStrings, newCircuit, withGates, withoutLast, withNewStart, asNumbers, outputWith, opening, besideUnread, outputOf, total, stepped, stepOf, withoutSum, termsOf, accepted, hasCircuit, circuitOf, openedOf, isRunning, refusalOf, turnBy, turnOf}
 use Rattle.engine.specs.Calls.{refusalNumber, hasLines, stored, answering, tooShort, skipped, response}
-use Rattle.framing.specs.Framing.{linesAfter, linesOf, clipped, pendingOf}
+use Rattle.framing.specs.Lines.{linesAfter, linesOf}
+use Rattle.framing.specs.Framing.{clipped, pendingOf}
 use Rattle.session.specs.Session.{asText, laterLines, begun, answerTo, withResponse, withLine, withLines, sessionOf}
 use Rattle.session.specs.Worked.{typedLines, answerLines}
 
 pub worked-session : sessionOf (asText typedLines) .said ≡ asText answerLines
-unfolding _⊕_ _⊞_ dot bit sum sumBelow parity sgn bitOf odd highFirst the first second join put isPosition at isGate areGates term sameTerm empty toggled substituted pair applied appliedAll polynomial product parityAll value overPositions triples pairsBeside everyTerm among listing gateOfTerm gatesOf strings along coefficient gamma innerSum isNought amplitudeAfter share tallyBelow readoutAfter readoutCount sameBytes digits decimal signedDecimal bitDigits numberAfter numberOfBits spelledSpot spelledGate begins valueFrom afterDigits frontBits afterBits colourOf spotOf cczOf czOf cnotOf gateOf stringsOf row spelledGates spelledBits spelled someBits allSome isAllowed allAllowed colourTwice anyColourTwice gatesIn gatesAfter typedOf shapeAs readingOf bytesOf infront orElse refusedIf classNumber isClass works momentRefusal within inRange allInRange onItself anyOnItself outOfRange anyNotLong operandRefusal places undoesMore historyRefusal rowRefusal refusalBy freshEngine noStrings newCircuit withGates withoutLast withNewStart asNumbers outputWith opening besideUnread total stepped stepOf withoutSum termsOf accepted hasCircuit circuitOf openedOf isRunning refusalOf turnBy turnOf refusalNumber hasLines stored answering tooShort skipped response linesAfter linesOf clipped pendingOf asText laterLines begun answerTo withResponse withLine withLines sessionOf typedLines answerLines
+unfolding _⊕_ _⊞_ dot bit sum sumBelow parity sgn bitOf odd highFirst the first second join put isPosition at isGate areGates term sameTerm empty toggled substituted pair applied appliedAll polynomial product parityAll value overPositions triples pairsBeside everyTerm among listing gateOfTerm gatesOf strings along coefficient gamma innerSum isNought amplitudeAfter share tallyBelow readoutAfter readoutCount sameBytes digits decimal signedDecimal bitDigits numberAfter numberOfBits spelledSpot spelledGate begins valueFrom afterDigits frontBits afterBits colourOf spotOf cczOf czOf cnotOf gateOf stringsOf row spelledGates spelledBits spelled someBits allSome isAllowed allAllowed colourTwice anyColourTwice gatesIn gatesAfter typedOf shapeAs readingOf bytesOf infront orElse refusedIf classNumber isClass works momentRefusal within inRange allInRange onItself anyOnItself outOfRange anyNotLong operandRefusal places undoesMore historyRefusal rowRefusal refusalBy freshEngine noStrings newCircuit withGates withoutLast withNewStart asNumbers outputWith opening besideUnread outputOf total stepped stepOf withoutSum termsOf accepted hasCircuit circuitOf openedOf isRunning refusalOf turnBy turnOf refusalNumber hasLines stored answering tooShort skipped response linesAfter linesOf clipped pendingOf asText laterLines begun answerTo withResponse withLine withLines sessionOf typedLines answerLines
 worked-session = refl

@@ -11,7 +11,7 @@ use Rattle.text.specs.Spelling.{spelledGate}
 use Rattle.engine.specs.Engine.{Engine, freshEngine}
 use Rattle.engine.specs.Response.{gatesOf}
 use Rattle.engine.specs.Calls.{Response, response}
-use Rattle.framing.specs.Framing.{linesOf}
+use Rattle.framing.specs.Lines.{linesOf}
 
 -- Lines as they are written, each ended by a line feed.
 unfoldable pub asText : List (List ℕ) → List ℕ

@@ -1,4 +1,4 @@
--- The calls that a session makes of the engine: a run in the sense of document 01 ("Runs, for demand 3"), whatever is typed.
+-- The calls that a session makes of the engine. Nobody has to believe these: `session-sound` says what they are.
 use mathlib.Core.Bool.{cond}
 use mathlib.Core.List.{List, [], _∷_, _++_}
 use Prim.Native.Nat.{ℕ, zero, suc}
@@ -8,9 +8,9 @@ use Rattle.answers.specs.Answers.{infront}
 use Rattle.engine.specs.Engine.{Engine}
 use Rattle.engine.specs.State.{encode}
 use Rattle.engine.specs.Calls.{Response, response, fetchedBytes}
-use Rattle.runs.specs.Runs.{LineCall, FetchCall, Call, line, fetch, answerOf, shownBy}
-use Rattle.framing.specs.Framing.{linesOf}
-use Rattle.session.specs.Session.{asText, laterLines, Progress, begun, withLine}
+use Rattle.runs.specs.Runs.{LineCall, FetchCall, Call, line, fetch}
+use Rattle.framing.specs.Lines.{linesOf}
+use Rattle.session.specs.Session.{laterLines, Progress, begun, withLine}
 
 -- The answer buffer that is lent.
 unfoldable pub lent : List ℕ
@@ -60,12 +60,3 @@ callsFrom p (l ∷ ls) = callsTo p l ++ callsFrom (withLine p l) ls
 -- The calls of a session on an input.
 unfoldable pub callsOf : List ℕ → List Call
 callsOf input = callsFrom begun (linesOf input)
-
--- What calls show, as text: bytes that a call gives are a line, and no bytes are none.
-unfoldable pub shownText : List ℕ → List ℕ
-shownText a = cond (eqb (length a) 0) [] (asText (a ∷ []))
-
-unfoldable pub saidBy : List Call → List ℕ
-saidBy [] = []
-saidBy (line c ∷ cs) = shownText (answerOf c) ++ saidBy cs
-saidBy (fetch f ∷ cs) = shownText (shownBy f) ++ saidBy cs

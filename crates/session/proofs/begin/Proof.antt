@@ -1,6 +1,6 @@
 -- The engine is fresh, and no line is begun.
 use mathlib.Core.Path.{refl}
-use Rattle.session.specs.Program.{firstReading}
+use Rattle.session.specs.Turns.{firstReading}
 use borrow.Author.Needs.{needs}
 use Rattle.session.proofs.begin.Statement.{statement}
 use Rattle.session.proofs.begin.Tie as tie

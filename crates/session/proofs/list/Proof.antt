@@ -3,7 +3,7 @@ use Prim.Native.Nat.{suc, _+_, _-_, _≤_}
 use native.Mathlib.Omega.{arith}
 use mathlib.Core.Path.{_≡_, refl}
 use lib.ListN.{length}
-use Rattle.session.specs.Program.{FailureKept}
+use Rattle.session.specs.Turns.{FailureKept}
 use Rattle.session.proofs.LaterLines.{later-few}
 use Rattle.session.proofs.ListingSaid.{Listed, none-listed, all-listed, past-listed, one-listed}
 use borrow.Author.Needs.{needs}
