@@ -17,8 +17,8 @@ use Rattle.circuit.specs.declared.Gate.{Gate}
 use Rattle.circuit.specs.Colours.{first, second}
 use Rattle.circuit.specs.Sum.{Basis}
 use Rattle.circuit.specs.Polynomial.{Polynomial, polynomial}
-use Rattle.slices.specs.Packing.{strings, Tabled}
-use Rattle.slices.specs.Totals.{amplitudeAfter, readoutAfter}
+use Rattle.slices.specs.Packing.{Tabled}
+use Rattle.slices.specs.Totals.{strings, amplitudeAfter, readoutAfter}
 use Rattle.slices.proofs.Bounds.{amplitudeAfter-bound}
 use Rattle.slices.proofs.OutcomeTests.{abs-fits}
 use Rattle.answers.specs.declared.Answer.{Answer}

@@ -12,8 +12,8 @@ use Rattle.gf2.proofs.Impossible.{never}
 use Rattle.circuit.specs.declared.Colour.{Colour}
 use Rattle.circuit.specs.Polynomial.{Polynomial, polynomial}
 use Rattle.circuit.specs.Words.{wordsOf}
-use Rattle.slices.specs.Packing.{strings, withOutput, tableOf}
-use Rattle.slices.specs.Totals.{amplitudeAfter, tallyBelow, readoutAfter}
+use Rattle.slices.specs.Packing.{withOutput, tableOf}
+use Rattle.slices.specs.Totals.{strings, amplitudeAfter, tallyBelow, readoutAfter}
 use Rattle.engine.specs.declared.Kind.{Kind}
 use Rattle.engine.specs.declared.Kind.the-variants as Kind
 use Rattle.engine.specs.declared.State.{State}

@@ -13,8 +13,7 @@ use Rattle.circuit.specs.Colours.{join, first, second}
 use Rattle.circuit.specs.Sum.{Basis}
 use Rattle.circuit.specs.Polynomial.{polynomial}
 use Rattle.circuit.specs.Listing.{listing}
-use Rattle.slices.specs.Packing.{strings}
-use Rattle.slices.specs.Totals.{amplitudeAfter, readoutAfter}
+use Rattle.slices.specs.Totals.{strings, amplitudeAfter, readoutAfter}
 use Rattle.text.specs.Spelling.{numberOfBits}
 use Rattle.lines.specs.Typed.{amp, part, Typed, circuit, gate, layer, undo, start, opens, step, drop, terms}
 use Rattle.lines.specs.Spelling.{Reading, typed, refused}

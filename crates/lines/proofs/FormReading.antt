@@ -9,8 +9,8 @@ use native.Mathlib.Nat.{zero-add}
 use lib.ListN.{length, drop}
 use Rattle.circuit.specs.declared.Gate.{Gate}
 use Rattle.circuit.specs.declared.Gate.the-variants.{Ccz, Cz, Cnot}
-use Rattle.text.specs.Spelling.{bytes, letter, spelledGate}
-use Rattle.text.specs.Reading.{begins, readKeyword}
+use Rattle.text.specs.Spelling.{bytes, letter, spelledGate, begins}
+use Rattle.text.specs.Reading.{readKeyword}
 use Rattle.text.proofs.ItemsSpelled.{colour-then}
 use Rattle.text.proofs.ItemCases.{keyword-cases, colour-cases}
 use Rattle.lines.specs.declared.Form.{Form}

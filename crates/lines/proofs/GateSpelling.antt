@@ -11,8 +11,8 @@ use Rattle.circuit.specs.declared.Colour.{Colour}
 use Rattle.circuit.specs.declared.Spot.{Spot}
 use Rattle.circuit.specs.declared.Gate.{Gate}
 use Rattle.circuit.specs.declared.Gate.the-variants.{Ccz, Cz, Cnot}
-use Rattle.text.specs.Spelling.{bytes, decimal, spelledSpot, spelledGate}
-use Rattle.text.specs.Reading.{capped, begins, readKeyword}
+use Rattle.text.specs.Spelling.{bytes, decimal, spelledSpot, spelledGate, begins}
+use Rattle.text.specs.Reading.{capped, readKeyword}
 use Rattle.text.proofs.Items.{past, spaced}
 use Rattle.text.proofs.ItemsSpelled.{keyword-then, number-then, spaced-number-then, colour-then}
 use Rattle.text.proofs.ItemCases.{keyword-cases, number-cases, spaced-number-cases, colour-cases}

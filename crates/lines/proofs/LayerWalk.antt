@@ -8,7 +8,8 @@ use lib.ListN.{length, drop}
 use lib.Seq.{drop-drop}
 use Rattle.gf2.proofs.Impossible.{never}
 use Rattle.circuit.specs.declared.Gate.{Gate}
-use Rattle.text.specs.Reading.{begins, readKeyword}
+use Rattle.text.specs.Reading.{readKeyword}
+use Rattle.text.specs.Spelling.{begins}
 use Rattle.lines.specs.Gates.{withGate, readGate, gatesFrom, layerGates, gatesAt, layerGateAt, gatesMet}
 use Rattle.lines.specs.Readings.{readingOf}
 use Rattle.lines.specs.Held.{heldReading}

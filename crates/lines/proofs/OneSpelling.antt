@@ -6,8 +6,7 @@ use lib.ListN.{length, drop}
 use lib.Seq.{drop-append-seam}
 use Rattle.circuit.specs.declared.Gate.{Gate}
 use Rattle.circuit.specs.declared.Gate.the-variants.{Ccz, Cz, Cnot}
-use Rattle.text.specs.Spelling.{bytes, spelledGate}
-use Rattle.text.specs.Reading.{begins}
+use Rattle.text.specs.Spelling.{bytes, spelledGate, begins}
 use Rattle.text.proofs.Decimal.{value-decimal}
 use Rattle.text.proofs.BitDigits.{front-bits, after-bits}
 use Rattle.text.proofs.GatesUnique.{colour-of-letter, gate-of-spelled, gate-of-line}

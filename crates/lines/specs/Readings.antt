@@ -6,8 +6,7 @@ use mathlib.Core.List.{List, [], _∷_}
 use lib.Dec.{eqb, ltb}
 use lib.ListN.{length, getD, drop}
 use Rattle.circuit.specs.declared.Gate.{Gate}
-use Rattle.text.specs.Spelling.{bytes, sameBytes, spelledGate}
-use Rattle.text.specs.Reading.{begins}
+use Rattle.text.specs.Spelling.{bytes, sameBytes, spelledGate, begins}
 use Rattle.text.specs.Items.{valueFrom, frontBits, pastBits, colourOf, gateOf}
 use Rattle.lines.specs.Typed.{amp, part, Typed, circuit, gate, layer, undo, start, opens, step, drop as dropped, terms, row}
 use Rattle.lines.specs.Spelling.{spelled, allSome, Reading, typed, refused, allAllowed, anyColourTwice}

@@ -1,6 +1,5 @@
--- Where a line is turned back (document 01): after the places Line and Form, the places Moment, Operands and History, by the row of the form
--- that was typed. Each gives the number of the refusal, 0 for none; a place is tried over the whole line before the next, the lowest number in
--- a place wins.
+-- Where a line is turned back (document 01): after Line and Form the places Moment, Operands and History, by the row of the form that was typed.
+-- Each gives the refusal's number, 0 for none; a place is tried over the whole line before the next, the lowest number in a place wins.
 use mathlib.Core.Bool.{Bool, true, false, not, cond, _&&_, _||_}
 use mathlib.Core.List.{List, [], _∷_}
 use Prim.Native.Nat.{ℕ, zero, suc, _+_, min}

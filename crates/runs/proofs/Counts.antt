@@ -17,8 +17,7 @@ use Rattle.circuit.specs.declared.Gate.{Gate}
 use Rattle.circuit.specs.Colours.{first, second, join}
 use Rattle.circuit.specs.Sum.{Basis, areGates, signedSum}
 use Rattle.circuit.specs.Polynomial.{polynomial}
-use Rattle.slices.specs.Packing.{strings}
-use Rattle.slices.specs.Totals.{amplitudeAfter, readoutCount, withStart}
+use Rattle.slices.specs.Totals.{strings, amplitudeAfter, readoutCount, withStart}
 use Rattle.slices.specs.Rank.{tally}
 use Rattle.slices.proofs.Rank.{tally-cong}
 use Rattle.slices.proofs.Readout.{readout-squares, readout-total}

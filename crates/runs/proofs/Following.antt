@@ -8,9 +8,8 @@ use lib.ListN.{length, getD}
 use Rattle.gf2.specs.Strings.{BitString}
 use Rattle.gf2.specs.Digits.{highFirst}
 use Rattle.circuit.specs.Sum.{Basis}
-use Rattle.slices.specs.Packing.{strings}
-use Rattle.text.specs.Spelling.{sameBytes, numberOfBits}
-use Rattle.text.specs.Reading.{begins}
+use Rattle.slices.specs.Totals.{strings}
+use Rattle.text.specs.Spelling.{sameBytes, numberOfBits, begins}
 use Rattle.text.proofs.BitNumbers.{digits-back}
 use Rattle.lines.specs.Typed.{Asked, amp, part, row}
 use Rattle.lines.specs.Spelling.{Reading}

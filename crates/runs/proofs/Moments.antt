@@ -4,8 +4,7 @@ use mathlib.Core.Path.{refl, sym, subst}
 use mathlib.Core.List.{List, [], _∷_, _++_}
 use Prim.Native.Nat.{ℕ}
 use lib.ListN.{length}
-use Rattle.text.specs.Reading.{begins}
-use Rattle.text.specs.Spelling.{sameBytes}
+use Rattle.text.specs.Spelling.{begins, sameBytes}
 use Rattle.lines.specs.Readings.{readingOf}
 use Rattle.engine.specs.declared.State.{State}
 use Rattle.engine.specs.Engine.{Loaded, Engine, freshEngine}

@@ -9,8 +9,7 @@ use native.Mathlib.Omega.{arith}
 use Rattle.gf2.proofs.Impossible.{never}
 use Rattle.gf2.specs.Strings.{BitString}
 use Rattle.circuit.specs.declared.Colour.{Colour}
-use Rattle.text.specs.Spelling.{sameBytes}
-use Rattle.text.specs.Reading.{begins}
+use Rattle.text.specs.Spelling.{sameBytes, begins}
 use Rattle.lines.specs.declared.Class.the-variants as Class
 use Rattle.lines.specs.Typed.{Typed, part, opens, step, row}
 use Rattle.lines.specs.Spelling.{Reading, typed, refused}

@@ -14,8 +14,7 @@ use Rattle.circuit.specs.Colours.{join}
 use Rattle.circuit.specs.Sum.{Basis, signedSum}
 use Rattle.slices.specs.Rank.{tally}
 use Rattle.slices.specs.Totals.{withStart}
-use Rattle.text.specs.Spelling.{bytes, sameBytes}
-use Rattle.text.specs.Reading.{begins}
+use Rattle.text.specs.Spelling.{bytes, sameBytes, begins}
 use Rattle.lines.specs.declared.Class.{Class}
 use Rattle.lines.specs.declared.Class.the-variants.{Creates, Builds, TakesBack, Starts, Opens, Steps, Drops, Lists}
 use Rattle.lines.specs.Typed.{Asked, amp, part, opens, step, Row, row}

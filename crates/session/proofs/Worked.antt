@@ -7,11 +7,9 @@ use Rattle.circuit.specs.Colours.{the, first, second, join, put}
 use Rattle.circuit.specs.Sum.{isPosition, at, isGate, areGates}
 use Rattle.circuit.specs.Polynomial.{term, sameTerm, empty, toggled, substituted, pair, applied, appliedAll, polynomial, product, parityAll, value}
 use Rattle.circuit.specs.Listing.{overPositions, triples, pairsBeside, everyTerm, among, listing, gateOfTerm, gatesOf}
-use Rattle.slices.specs.Packing.{strings}
+use Rattle.slices.specs.Totals.{strings, isNought, amplitudeAfter, share, tallyBelow, readoutAfter, readoutCount}
 use Rattle.slices.specs.Slices.{along, coefficient, gamma, innerSum}
-use Rattle.slices.specs.Totals.{isNought, amplitudeAfter, share, tallyBelow, readoutAfter, readoutCount}
-use Rattle.text.specs.Spelling.{sameBytes, digits, decimal, signedDecimal, bitDigits, numberAfter, numberOfBits, spelledSpot, spelledGate}
-use Rattle.text.specs.Reading.{begins}
+use Rattle.text.specs.Spelling.{sameBytes, digits, decimal, signedDecimal, bitDigits, numberAfter, numberOfBits, spelledSpot, spelledGate, begins}
 use Rattle.text.specs.Items.{valueFrom, afterDigits, frontBits, afterBits, colourOf, spotOf, cczOf, czOf, cnotOf, gateOf}
 use Rattle.lines.specs.Typed.{stringsOf, row}
 use Rattle.lines.specs.Spelling.{spelledGates, spelledBits, spelled, someBits, allSome, isAllowed, allAllowed, colourTwice, anyColourTwice, gatesIn}

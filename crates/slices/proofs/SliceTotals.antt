@@ -18,8 +18,8 @@ use Rattle.circuit.specs.Sum.{Basis}
 use Rattle.circuit.specs.Polynomial.{Polynomial, polynomial}
 use Rattle.slices.specs.declared.slice.Slice.{Slice}
 use Rattle.slices.specs.declared.total.Sums.{Sums}
-use Rattle.slices.specs.Totals.{signedPart, amplitudeAfter, amplitudeOver, share, tallyBelow, readoutAfter, readoutOver, inRange, moderate, moderateCount}
-use Rattle.slices.specs.Packing.{strings, withOutput, Tabled}
+use Rattle.slices.specs.Totals.{signedPart, amplitudeAfter, amplitudeOver, share, tallyBelow, readoutAfter, readoutOver, inRange, moderate, moderateCount, strings}
+use Rattle.slices.specs.Packing.{withOutput, Tabled}
 use Rattle.slices.specs.Answers.{sliceAnswer, answerAt, shareOf}
 use Rattle.slices.specs.Walking.{Walked}
 use Rattle.slices.proofs.Bounds.{amplitudeAfter-bound, readoutAfter-bound}

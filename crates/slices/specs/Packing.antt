@@ -6,7 +6,6 @@ use mathlib.Core.List.{List, _∷_}
 use Prim.Native.Nat.{ℕ, _+_, _*_, _/_, _%_, _^_}
 use lib.Dec.{eqb, ltb}
 use Rattle.gf2.specs.Strings.{BitString, _⊕_, bit}
-use Rattle.gf2.specs.Digits.{highFirst}
 use Rattle.gf2.specs.Words.{wordOf, tabulate}
 use Rattle.circuit.specs.declared.Colour.{Colour}
 use Rattle.circuit.specs.declared.Colour.the-variants.{Red, Blue, Green}
@@ -14,10 +13,6 @@ use Rattle.circuit.specs.declared.Gate.{Gate}
 use Rattle.circuit.specs.Colours.{the, first, second, join}
 use Rattle.circuit.specs.Sum.{Basis, areGates}
 use Rattle.circuit.specs.Polynomial.{Polynomial, polynomial}
-
--- The basis string of three numbers, position 1 the highest digit of m.
-unfoldable pub strings : ℕ → ℕ → ℕ → ℕ → Basis
-strings m r b g = record { red = highFirst m r; blue = highFirst m b; green = highFirst m g }
 
 -- A string p of colour C added to the polynomial: its bit at position i acts as the term that holds i alone.
 unfoldable pub added : Colour → BitString → Polynomial → Polynomial

@@ -7,7 +7,8 @@ ghost use Rattle.gf2.specs.Digits.{highFirst};
 ghost use Rattle.circuit.specs.Colours.{join};
 ghost use Rattle.circuit.specs.Polynomial.{Polynomial};
 ghost use Rattle.circuit.specs.Words.{wordsOf};
-ghost use Rattle.slices.specs.Packing.{added, withOutput, strings};
+ghost use Rattle.slices.specs.Packing.{added, withOutput};
+ghost use Rattle.slices.specs.Totals.{strings};
 use circuit::Colour;
 
 // The word of the term that holds position `p` of a colour alone.

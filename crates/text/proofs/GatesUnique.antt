@@ -8,8 +8,7 @@ use Rattle.circuit.specs.declared.Colour.the-variants.{Red, Blue, Green}
 use Rattle.circuit.specs.declared.Spot.{Spot}
 use Rattle.circuit.specs.declared.Gate.{Gate}
 use Rattle.circuit.specs.declared.Gate.the-variants.{Ccz, Cz, Cnot}
-use Rattle.text.specs.Spelling.{bytes, letter, spelledSpot, spelledGate}
-use Rattle.text.specs.Reading.{begins}
+use Rattle.text.specs.Spelling.{bytes, letter, spelledSpot, spelledGate, begins}
 use Rattle.text.specs.Items.{pastNumber, colourOf, spotOf, cczOf, czOf, cnotOf, gateOf}
 use Rattle.text.proofs.Decimal.{value-decimal, after-decimal}
 use Rattle.text.proofs.GateItems.{spot-items, ccz-items, cz-items, cnot-items}

@@ -11,7 +11,8 @@ use lib.ListN.{length, getD, drop, drop-of-length-le}
 use lib.Seq.{drop-cons}
 use borrow.Author.Tests.{le-leb, lt-leb, eq-eqb, ne-eqb, eqb-true, eqb-false}
 use Rattle.circuit.specs.declared.Colour.the-variants.{Red, Blue, Green}
-use Rattle.text.specs.Reading.{capped, begins, readKeyword, digitsFrom, numberFrom, readNumber, colourFrom, readColour, bitsFrom}
+use Rattle.text.specs.Reading.{capped, readKeyword, digitsFrom, numberFrom, readNumber, colourFrom, readColour, bitsFrom}
+use Rattle.text.specs.Spelling.{begins}
 use Rattle.text.specs.declared.KeywordAt.the-variants.{Ends, Missing as NoKeyword}
 use Rattle.text.specs.declared.NumberAt.the-variants.{Read as NumberRead, Missing as NoNumber}
 use Rattle.text.specs.declared.ColourAt.the-variants.{Read as ColourRead, Missing as NoColour}

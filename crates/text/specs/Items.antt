@@ -11,8 +11,7 @@ use Rattle.circuit.specs.declared.Colour.the-variants.{Red, Blue, Green}
 use Rattle.circuit.specs.declared.Spot.{Spot}
 use Rattle.circuit.specs.declared.Gate.{Gate}
 use Rattle.circuit.specs.declared.Gate.the-variants.{Ccz, Cz, Cnot}
-use Rattle.text.specs.Spelling.{bytes}
-use Rattle.text.specs.Reading.{begins}
+use Rattle.text.specs.Spelling.{bytes, begins}
 
 abbrev pub isDigit : ℕ → Bool
 isDigit x = leb 48 x && leb x 57

@@ -8,7 +8,7 @@ use lib.ListN.{length, drop}
 use Rattle.circuit.specs.declared.Colour.{Colour}
 use Rattle.circuit.specs.declared.Colour.the-variants.{Red, Blue, Green}
 use Rattle.gf2.specs.Strings.{BitString}
-use Rattle.text.specs.Spelling.{bytes, numberOfBits}
+use Rattle.text.specs.Spelling.{bytes, begins, numberOfBits}
 use Rattle.text.specs.declared.Bits.{Bits}
 use Rattle.text.specs.declared.KeywordAt.{KeywordAt}
 use Rattle.text.specs.declared.KeywordAt.the-variants.{Ends, Missing as NoKeyword}
@@ -33,12 +33,6 @@ unfoldable pub heldBits : BitString → Bits
 heldBits s = record { len = length s; value = numberOfBits s % 65536 }
 
 -- ---- keywords
-
--- Does the key stand at the front of the list?
-unfoldable pub begins : List ℕ → List ℕ → Bool
-begins [] l = true
-begins (k ∷ ks) [] = false
-begins (k ∷ ks) (x ∷ xs) = cond (eqb x k) (begins ks xs) false
 
 -- "Keywords are compared byte for byte with the spellings above."
 unfoldable pub readKeyword : List ℕ → ℕ → List ℕ → KeywordAt

@@ -25,6 +25,12 @@ sameBytes [] (y ∷ ys) = false
 sameBytes (x ∷ xs) [] = false
 sameBytes (x ∷ xs) (y ∷ ys) = cond (eqb x y) (sameBytes xs ys) false
 
+-- Does the key stand at the front of the list?
+unfoldable pub begins : List ℕ → List ℕ → Bool
+begins [] l = true
+begins (k ∷ ks) [] = false
+begins (k ∷ ks) (x ∷ xs) = cond (eqb x k) (begins ks xs) false
+
 -- The digits of n, at most as many as the first number says.
 unfoldable pub digits : ℕ → ℕ → List ℕ
 digits zero n = []

@@ -5,7 +5,7 @@ use native.Mathlib.Nat.{add-zero, add-assoc}
 use native.Mathlib.Omega.{arith}
 use denote.Ref.{now}
 use lib.ListN.{length, drop}
-use Rattle.text.specs.Reading.{begins}
+use Rattle.text.specs.Spelling.{begins}
 use Rattle.text.specs.declared.KeywordAt.the-variants.{Ends}
 use Rattle.text.proofs.Scanning.{begins-end, begins-out, begins-other, begins-on, keyword-missing, keyword-ends}
 use borrow.Author.Needs.{needs}

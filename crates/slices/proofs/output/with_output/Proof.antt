@@ -2,7 +2,8 @@
 use borrow.Author.Tests.{lt-leb, le-leb}
 use Rattle.gf2.specs.Digits.{highFirst}
 use Rattle.circuit.specs.declared.Colour.the-variants.{Blue, Green}
-use Rattle.slices.specs.Packing.{added, withOutput, strings}
+use Rattle.slices.specs.Packing.{added, withOutput}
+use Rattle.slices.specs.Totals.{strings}
 use Rattle.slices.proofs.output.with_output.Statement.{statement}
 use Rattle.slices.proofs.output.with_output.Tie as tie
 

@@ -6,8 +6,8 @@ use Rattle.circuit.specs.Polynomial.{polynomial}
 use Rattle.elimination.specs.Rows.{pivots}
 use Rattle.elimination.specs.State.{begun}
 use borrow.Author.Tests.{not-true, not-false}
-use Rattle.slices.specs.Totals.{inRange}
-use Rattle.slices.specs.Packing.{strings, withOutput}
+use Rattle.slices.specs.Totals.{inRange, strings}
+use Rattle.slices.specs.Packing.{withOutput}
 use Rattle.slices.specs.Answers.{answerOf, answerTo, answerAt}
 use Rattle.slices.proofs.EntryChecks.{range-holds}
 use Rattle.slices.proofs.SlicesAdded.{outcome-is}
