@@ -86,8 +86,8 @@ stored-kept :
 unfolding historyAfter refusalNumber gatesIn row circuitOf
 stored-kept (refuses {n = n}) s = rw (ne-eqb (suc n) 0 (λ z. omega arith)) s
 stored-kept {h = h} {e = e} (creates i low high) s = rw (stored-none (length (gatesOf e)) h) (record { codes = refl; room = omega arith })
-stored-kept {h = h} (adds {c = c} (one {g}) v w) s = stored-more (c .gates) (g ∷ []) h s w
-stored-kept {h = h} (adds {c = c} (many {gs}) v w) s = stored-more (c .gates) gs h s w
+stored-kept {h = h} (adds {c = c} (one {g}) v w) s = stored-more (c .gates) (g ∷ []) h s (omega (arith, s .room, w))
+stored-kept {h = h} (adds {c = c} (many {gs}) v w) s = stored-more (c .gates) gs h s (omega (arith, s .room, w))
 stored-kept {h = h} (takesBack {c = c} {k = k}) s = rw (stored-none (length (c .gates)) h) (stored-less (c .gates) k h s)
 stored-kept {h = h} (starts {c = c} r b g) s = rw (stored-none (length (c .gates)) h) s
 stored-kept {h = h} (opensAmplitude {c = c} r b g) s = rw (stored-none (length (c .gates)) h) s

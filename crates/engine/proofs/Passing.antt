@@ -1,7 +1,7 @@
 -- A line that no place turns back: what each of the tests says that found nothing.
 use mathlib.Core.Path.{_≡_, refl}
 use mathlib.Core.Bool.{Bool, true, false, not, _&&_, _||_, true≢false}
-use Prim.Native.Nat.{ℕ, zero, suc, _+_, _≤_}
+use Prim.Native.Nat.{ℕ, zero, suc, _-_, _≤_}
 use lib.ListN.{length}
 use borrow.Author.Tests.{ltb-false, not-false}
 use Rattle.gf2.proofs.Bits.{and-both}
@@ -35,7 +35,7 @@ pub record Passes (loaded summing : Bool) (m room held : ℕ) (r : Row) : Type 0
   pub targets : anyOnItself (r .gates) ≡ false
   pub lengths : anyNotLong m (r .strings) ≡ false
   pub undone : undoesMore held r ≡ false
-  pub fits : held + length (r .gates) ≤ places room
+  pub fits : length (r .gates) ≤ places room - held
 
 pub passes : (loaded summing : Bool) (m room held : ℕ) (r : Row) → rowRefusal loaded summing m room held r ≡ 0 → Passes loaded summing m room held r
 unfolding rowRefusal momentRefusal operandRefusal outOfRange historyRefusal
@@ -57,5 +57,5 @@ passes loaded summing m room held r h =
       targets = not-refused _ 9 (ten .0);
       lengths = not-refused _ 10 (ten .1);
       undone = not-refused _ 11 (twelve .0);
-      fits = ltb-false (places room) (held + length (r .gates)) (not-refused _ 12 (twelve .1));
+      fits = ltb-false (places room - held) (length (r .gates)) (not-refused _ 12 (twelve .1));
     }

@@ -71,7 +71,7 @@ turn-bound e room line = go (readingOf line) refl
     go (typed t) is = by t (refusalOf e room (typed t)) (rw is at (refusal-most e room line))
     go (refused n) is = let k = refused-among line n is in omega arith
 
--- "A refused line gets one number from document 01's table".
+-- Refusals are numbered up to 13, as in document 01's table; 0 is none.
 pub refusal-numbered : (e : Engine) (h line : List ℕ) (room : ℕ) → response e h line room .refusal ≤ 13
 unfolding response skipped tooShort answering
 refusal-numbered e h line room = go (eqb (length line) 0) (ltb room 64)

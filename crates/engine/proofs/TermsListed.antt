@@ -3,7 +3,7 @@
 use mathlib.Core.Path.{_≡_, refl, ap, sym, _∙_}
 use mathlib.Core.Bool.{Bool, true, false, cond}
 use mathlib.Core.List.{List, [], _∷_}
-use Prim.Native.Nat.{ℕ, zero, suc, _+_, _≤_, _<_}
+use Prim.Native.Nat.{ℕ, zero, suc, _+_, _-_, _≤_, _<_}
 use native.Mathlib.Numerals.{add-one}
 use native.Mathlib.Omega.{arith}
 use lib.Dec.{ltb}
@@ -88,7 +88,7 @@ terms-turn :
 unfolding turnOf turnBy refusalOf refusalBy rowRefusal row hasCircuit circuitOf openedOf isRunning momentRefusal orElse refusedIf isClass classNumber works operandRefusal outOfRange within allInRange anyOnItself anyNotLong historyRefusal undoesMore refusalNumber accepted
 terms-turn absent room h = absurd (omega arith)
 terms-turn (present c (running o)) room h = absurd (omega arith)
-terms-turn (present c closed) room h = go (ltb (places room) (length (c .gates) + 0)) h
+terms-turn (present c closed) room h = go (ltb (places room - length (c .gates)) 0) h
   where
     go :
         (b : Bool) → refusalNumber (turnBy (cond b 13 0) (present c closed) terms .answer) ≡ 0 →

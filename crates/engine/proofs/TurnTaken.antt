@@ -189,6 +189,7 @@ module _ (e : Engine) (s s' : State) (h : List ℕ) (a : Answer) where
             let inside : allInRange (c .m) gs ≡ true = rw g at (p .inside) in
             let valid = gates-by-tests (c .m) gs inside (rw g at (p .targets)) (rw g at (form-read line t is .colours)) in
             let all : met ≡ gs = same (c .m) (sound .most) inside in
+            let held = k .holds .room in
             let room : length (c .gates) + length gs ≤ length h = omega (arith, rw g at (p .fits)) in
             let q = d c o l (k .holds .state) (rw all (gates-more (c .m) 16 (sound .most) gs valid)) (rw all room) in
             record {

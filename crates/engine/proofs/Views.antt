@@ -38,7 +38,7 @@ pub data View (room : ℕ) : Loaded → Reading → Loaded → Answer → Type 0
       {e : Loaded} {m : ℕ} → isRunning (openedOf e) ≡ false → 1 ≤ m → m ≤ 16 →
       View room e (typed (circuit m)) (present (record { m = m; gates = []; start = noStrings }) closed) Answer.Ok
   adds :
-      {c : Circuit} {t : Typed} {gs : List Gate} → Building t gs → areGates (c .m) gs ≡ true → length (c .gates) + length gs ≤ places room →
+      {c : Circuit} {t : Typed} {gs : List Gate} → Building t gs → areGates (c .m) gs ≡ true → length gs ≤ places room - length (c .gates) →
       View room (present c closed) (typed t) (present (record { m = c .m; gates = c .gates ++ gs; start = c .start }) closed) Answer.Ok
   takesBack :
       {c : Circuit} {k : ℕ} →

@@ -1,2 +1,3 @@
 pub mod RefusalLaws
 pub mod RowsHeld
+pub mod Edges

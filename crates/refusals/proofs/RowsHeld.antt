@@ -1,6 +1,6 @@
 -- The held row of a line tells of the form that was typed all that the places ask: 65,537 is above every range that is asked for, so a
 -- capped number lies in a range exactly if the number does, and is the number if it does.
-use Prim.Native.Nat.{ℕ, _+_, _≤_}
+use Prim.Native.Nat.{ℕ, _≤_, _-_}
 use native.Mathlib.Omega.{arith}
 use mathlib.Core.Path.{_≡_, refl, ap, _∙_}
 use mathlib.Core.Bool.{Bool, true, false, not, _&&_, and-false, or-false}
@@ -201,6 +201,6 @@ module _ (l : List ℕ) (t : Typed) (r : HeldRow) (told : Tells l t r) where
 
   -- The place History by the held row: a number in its range is the held one.
   pub history-told : (room count : ℕ) → within (row t .least) (row t .most) (row t .number) ≡ true → historyRefusal room count (row t) ≡
-      orElse (refusedIf (isClass Class.TakesBack (r .class) && ltb count (r .number)) 12) (refusedIf (ltb (places room) (count + countOf (r .gates))) 13)
+      orElse (refusedIf (isClass Class.TakesBack (r .class) && ltb count (r .number)) 12) (refusedIf (ltb (places room - count) (countOf (r .gates))) 13)
   unfolding historyRefusal undoesMore
   history-told room count w = rw (told .class-is, told .number-is w, told .count-is)

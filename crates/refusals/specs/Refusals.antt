@@ -2,7 +2,7 @@
 -- Each gives the refusal's number, 0 for none; a place is tried over the whole line before the next, the lowest number in a place wins.
 use mathlib.Core.Bool.{Bool, true, false, not, cond, _&&_, _||_}
 use mathlib.Core.List.{List, [], _∷_}
-use Prim.Native.Nat.{ℕ, zero, suc, _+_, min}
+use Prim.Native.Nat.{ℕ, zero, suc, _-_, min}
 use lib.Dec.{eqb, leb, ltb}
 use lib.ListN.{length}
 use Rattle.gf2.specs.Strings.{BitString}
@@ -102,7 +102,7 @@ undoesMore held r = isClass TakesBack (r .class) && ltb held (r .number)
 -- 13: "fewer free places than the line has gates"
 unfoldable pub historyRefusal : ℕ → ℕ → Row → ℕ
 historyRefusal room held r =
-    orElse (refusedIf (undoesMore held r) 12) (refusedIf (ltb (places room) (held + length (r .gates))) 13)
+    orElse (refusedIf (undoesMore held r) 12) (refusedIf (ltb (places room - held) (length (r .gates))) 13)
 
 -- ---- all places
 

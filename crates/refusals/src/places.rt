@@ -1,7 +1,7 @@
 // Where a line is turned back: the places Moment, Operands and History. Each function gives the number of the refusal, 0 for none.
 ghost use mathlib.Core.Bool.{true, not, _&&_, _||_};
 ghost use mathlib.Core.Path.{_≡_};
-ghost use Prim.Native.Nat.{ℕ, min, _≤_};
+ghost use Prim.Native.Nat.{ℕ, _-_, min, _≤_};
 ghost use lib.Dec.{ltb};
 ghost use mathlib.Core.List.{List};
 ghost use Rattle.circuit.specs.Sum.{isPosition};
@@ -238,6 +238,16 @@ fn places_of(room: usize) -> usize
     if 4096 < room { 4096 } else { room }
 }
 
+fn free_places(room: usize, held: usize) -> usize
+    ensures { λ r. ⌜ r ≡ places room - held ⌝ }
+{
+    let all = places_of(room);
+    if all < held {
+        return 0;
+    }
+    all - held
+}
+
 // 12: an undo of more gates than are held.
 fn undoes_more(held: usize, class: Class, k: usize) -> bool
     ensures { λ r. ⌜ r ≡ isClass Class.TakesBack class && ltb held k ⌝ }
@@ -254,12 +264,9 @@ fn in_history(room: usize, held: usize, row: HeldRow) -> u8
     if undoes_more(held, class, row.number) {
         return 12;
     }
-    let all = places_of(room);
-    if all < held {
-        return 13;
-    }
+    let free = free_places(room, held);
     let gates = row.gates;
-    if all - held < gate_count(gates) {
+    if free < gate_count(gates) {
         return 13;
     }
     0

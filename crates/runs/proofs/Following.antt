@@ -20,7 +20,7 @@ use Rattle.answers.specs.Answers.{bytesOf}
 use Rattle.engine.specs.Engine.{Strings, Circuit, Purpose, amplitude, readout, OpenSum, closed, running, Loaded, absent, present}
 use Rattle.engine.specs.Response.{noStrings, asNumbers, outputWith, besideUnread, total}
 use Rattle.engine.proofs.Views.{Building, one, many, View, refuses, creates, adds, takesBack, starts, opensAmplitude, opensReadout, worksOn, finishes, drops, lists}
-use Rattle.runs.specs.Runs.{LineCall, line, answerOf, Entered, Book, none, holds, zeros, allZeros, isOk, entered, addGates, takeOff, setStart, inOrder, enterBy, enter, fed, Part, LastPart, last, isLeft, askedIn, noted, LastAmp, lastAmp, notedAmp, Log, logged}
+use Rattle.runs.specs.Runs.{LineCall, line, answerOf, Entered, Book, none, holds, zeros, allZeros, isOk, entered, addGates, takeOff, setStart, inOrder, enterBy, enter, fed, Part, Last, last, isLeft, askedIn, noted, Amp, notedAmp, Log, logged}
 
 -- ---- what the book holds of an engine
 
@@ -47,19 +47,19 @@ partOf c o x y start =
     record { colour = o .colour; x = highFirst (c .m) x; y = highFirst (c .m) y; book = holds (openedFor c o start) }
 
 -- A readout: x, y and the start's strings are those at its opening.
-pub record PartNoted (c : Circuit) (o : OpenSum) (p : LastPart) : Type 0 where
+pub record PartNoted (c : Circuit) (o : OpenSum) (p : Last Part) : Type 0 where
   pub x : ℕ
   pub y : ℕ
   pub start : Strings
   pub output : o .output ≡ outputWith start (besideUnread (o .colour) x y)
   pub latest : p ≡ last (partOf c o x y start)
 
-pub record AmpNoted (c : Circuit) (o : OpenSum) (p : LastAmp) : Type 0 where
+pub record AmpNoted (c : Circuit) (o : OpenSum) (p : Last Amp) : Type 0 where
   pub asked : Strings
   pub start : Strings
   pub output : o .output ≡ outputWith start asked
   pub latest :
-      p ≡ lastAmp (record { output = strings (c .m) (asked .red) (asked .blue) (asked .green); book = holds (openedFor c o start) })
+      p ≡ last (record { output = strings (c .m) (asked .red) (asked .blue) (asked .green); book = holds (openedFor c o start) })
 
 abbrev pub NotedFor : Circuit → OpenSum → Purpose → Log → Type 0
 NotedFor c o amplitude g = AmpNoted c o (g .amp)
@@ -90,13 +90,13 @@ unfolding logged loggedBy fed
 logged-by g c = refl
 
 -- An answer that is neither `(ok)` nor `(left L)` changes nothing.
-noted-quiet : (b : Book) (qs : List Asked) (a : List ℕ) (p : LastPart) → isLeft a ≡ false → noted b qs a p ≡ p
+noted-quiet : (b : Book) (qs : List Asked) (a : List ℕ) (p : Last Part) → isLeft a ≡ false → noted b qs a p ≡ p
 unfolding noted
 noted-quiet b [] a p h = refl
 noted-quiet b (amp C r x g ∷ qs) a p h = refl
 noted-quiet b (part C x y ∷ qs) a p h = rw h
 
-notedAmp-quiet : (b : Book) (qs : List Asked) (a : List ℕ) (p : LastAmp) → isLeft a ≡ false → notedAmp b qs a p ≡ p
+notedAmp-quiet : (b : Book) (qs : List Asked) (a : List ℕ) (p : Last Amp) → isLeft a ≡ false → notedAmp b qs a p ≡ p
 unfolding notedAmp
 notedAmp-quiet b [] a p h = refl
 notedAmp-quiet b (amp C r x g ∷ qs) a p h = rw h

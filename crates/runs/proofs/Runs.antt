@@ -19,7 +19,7 @@ use Rattle.runs.proofs.Following.{enteredOf, PartNoted, AmpNoted, Noted
 use Rattle.runs.proofs.Ending.{ReadoutEnd, counted, AmplitudeEnd, summed, readout-end, amplitude-end}
 use Rattle.runs.proofs.Counts.{Counted, noted-count, counted-exact, counted-total, noted-amplitude}
 use Rattle.runs.proofs.Moments.{run-given, Moment, done, fetch-shown, moment}
-use Rattle.runs.proofs.Steps.{steps-end}
+use Rattle.runs.proofs.Steps.{part-entered, steps-end}
 
 -- ---- an answer that is a total ended a sum
 
@@ -107,6 +107,7 @@ given-sound h calls run =
       exact = λ m gates C X Y t n a. counted-exact m gates C X Y t n (answers-counted h calls run m gates C X Y t n a);
       total = λ m gates C t n a.
           counted-total m gates C t n (λ X Y p q. answers-counted h calls run m gates C X Y (t X Y) (n X Y) (a X Y p q));
+      entered = λ before p after C x y e. part-entered (logOf before) p after C x y (at h calls run before (line p ∷ after) e);
       ends = λ before p between c after C x y b k e.
           steps-end (logOf before) p between c after C x y b k (at h calls run before (line p ∷ (between ++ (line c ∷ after))) e);
       amplitudes = λ before c after s n e a.

@@ -69,6 +69,23 @@ begins-working C x y b (finishes w) h _ _ = never (cc)
 begins-working C x y b drops h _ _ = never (cc)
 begins-working C x y b lists h _ _ = never (cc)
 
+-- There the book holds a circuit.
+begins-entered :
+    {room : ℕ} {e e' : Loaded} {r : Reading} {a : Answer} (C : Colour) (x y : BitString) → View room e r e' a →
+    r ≡ typed (opens (part C x y)) → isLeft (bytesOf a) ≡ true → (b : Entered) × (bookOf e ≡ holds b)
+unfolding bytesOf isLeft begins bookOf
+begins-entered C x y refuses h k = absurd (false≢true k)
+begins-entered C x y (creates i low high) h _ = never (cc)
+begins-entered C x y (adds g v w) h k = absurd (false≢true k)
+begins-entered C x y takesBack h _ = never (cc)
+begins-entered C x y (starts r s t) h _ = never (cc)
+begins-entered C x y (opensAmplitude r s t) h _ = never (cc)
+begins-entered C x y (opensReadout {c = c} s t) h k = (enteredOf c, refl)
+begins-entered C x y (worksOn w) h _ = never (cc)
+begins-entered C x y (finishes w) h _ = never (cc)
+begins-entered C x y drops h _ = never (cc)
+begins-entered C x y lists h _ = never (cc)
+
 -- A line leaves the sum open while its slices are not all worked.
 works-on :
     {room m w : ℕ} {e e' : Loaded} {r : Reading} {a : Answer} → View room e r e' a → Working m w e →
@@ -167,6 +184,21 @@ outcome-begins :
 unfolding isLeft begins
 outcome-begins C x y b silent h k q = absurd (false≢true k)
 outcome-begins C x y b (spoken v) h k q = begins-working C x y b v h k q
+
+outcome-entered :
+    {room : ℕ} {l : List ℕ} {e e' : Loaded} {a : List ℕ} (C : Colour) (x y : BitString) → Outcome room l e e' a →
+    readingOf l ≡ typed (opens (part C x y)) → isLeft a ≡ true → (b : Entered) × (bookOf e ≡ holds b)
+unfolding isLeft begins
+outcome-entered C x y silent h k = absurd (false≢true k)
+outcome-entered C x y (spoken v) h k = begins-entered C x y v h k
+
+-- An accepted `part` finds a circuit in the book.
+pub part-entered :
+    (g : Log) (p : LineCall) (after : List Call) (C : Colour) (x y : BitString) → Moment g (line p ∷ after) →
+    readingOf (p .line) ≡ typed (opens (part C x y)) → isLeft (answerOf p) ≡ true → (b : Entered) × (g .book ≡ holds b)
+part-entered g p after C x y m asked left =
+    let found = outcome-entered C x y (done g p after m .outcome) asked left in
+    (found .0, m .follows .book ∙ found .1)
 
 outcome-ends :
     {room m w : ℕ} {l : List ℕ} {e e' : Loaded} {a : List ℕ} (k : ℕ) → Outcome room l e e' a → Working m w e → readingOf l ≡ typed (step k) →

@@ -148,9 +148,9 @@ pub record Part : Type 0 where
   pub y : BitString
   pub book : Book
 
-pub data LastPart : Type 0 where
-  never : LastPart
-  last : Part → LastPart
+pub data Last (A : Type 0) : Type 0 where
+  never : Last A
+  last : A → Last A
 
 unfoldable pub isLeft : List ℕ → Bool
 isLeft a = begins (bytes "(left ") a
@@ -160,7 +160,7 @@ unfoldable pub askedIn : Reading → List Asked
 askedIn (typed t) = row t .asked
 askedIn (refused n) = []
 
-unfoldable pub noted : Book → List Asked → List ℕ → LastPart → LastPart
+unfoldable pub noted : Book → List Asked → List ℕ → Last Part → Last Part
 noted b [] a p = p
 noted b (amp C r x g ∷ qs) a p = p
 noted b (part C x y ∷ qs) a p = cond (isLeft a) (last (record { colour = C; x = x; y = y; book = b })) p
@@ -170,23 +170,19 @@ pub record Amp : Type 0 where
   pub output : Basis
   pub book : Book
 
-pub data LastAmp : Type 0 where
-  noAmp : LastAmp
-  lastAmp : Amp → LastAmp
-
-unfoldable pub notedAmp : Book → List Asked → List ℕ → LastAmp → LastAmp
+unfoldable pub notedAmp : Book → List Asked → List ℕ → Last Amp → Last Amp
 notedAmp b [] a p = p
 notedAmp b (amp C r x g ∷ qs) a p =
-    cond (isLeft a) (lastAmp (record { output = record { red = r; blue = x; green = g }; book = b })) p
+    cond (isLeft a) (last (record { output = record { red = r; blue = x; green = g }; book = b })) p
 notedAmp b (part C x y ∷ qs) a p = p
 
 pub record Log : Type 0 where
   pub book : Book
-  pub part : LastPart
-  pub amp : LastAmp
+  pub part : Last Part
+  pub amp : Last Amp
 
 unfoldable pub emptyLog : Log
-emptyLog = record { book = none; part = never; amp = noAmp }
+emptyLog = record { book = none; part = never; amp = never }
 
 unfoldable pub logged : Log → Call → Log
 logged g (line c) =
@@ -275,7 +271,7 @@ pub record IsReadout (answer : List ℕ) : Type 0 where
 -- starting ones added, whichever colour was sliced.
 pub record Amplitude (calls : List Call) (s : ℤ) (n : ℕ) : Type 0 where
   pub asked : Amp
-  pub latest : logOf calls .amp ≡ lastAmp asked
+  pub latest : logOf calls .amp ≡ last asked
   pub entered : Entered
   pub book : asked .book ≡ holds entered
   pub exponent : n ≡ 3 * entered .m
@@ -298,6 +294,10 @@ pub record SoundRun (calls : List Call) : Type 0 where
       (m : ℕ) (gates : List Gate) (C : Colour) (t n : BitString → BitString → ℕ) →
       ((X Y : BitString) → length X ≡ m → length Y ≡ m → Answers calls m gates C X Y (t X Y) (n X Y)) →
       tally m (λ X. tally m (λ Y. t X Y)) ≡ 2 ^ (3 * m)
+  -- every `part` that is answered `(left L)` finds a circuit in the book
+  pub entered :
+      (before : List Call) (p : LineCall) (after : List Call) (C : Colour) (x y : BitString) → calls ≡ before ++ (line p ∷ after) →
+      readingOf (p .line) ≡ typed (opens (part C x y)) → isLeft (answerOf p) ≡ true → (b : Entered) × (logOf before .book ≡ holds b)
   -- "If the k of the accepted steps after an accepted `part` reach a total of 2^m or more, with no accepted `drop` before that, the step that
   -- first reaches it is answered `(part T n)`." The `part` is p, the step is c, and b is what the book held at p.
   pub ends :

@@ -7,28 +7,28 @@ use lib.Dec.{leb}
 use lib.IntN.{ℤ, pos, negsuc, natAbs}
 use lib.Signed.{ltZ, leZ}
 use borrow.Author.Tests.{leb-true, leb-false, le-leb, lt-leb, ltb-true, ltb-false}
-use Rattle.slices.specs.Totals.{inRange, moderate}
+use Rattle.slices.specs.Totals.{areSlices, moderate}
 
 -- ---- slices
 
-pub range-refused : (m from count : ℕ) → 16 < m → false ≡ inRange m from count
-unfolding inRange
+pub range-refused : (m from count : ℕ) → 16 < m → false ≡ areSlices m from count
+unfolding areSlices
 range-refused m from count h = rw (lt-leb m 16 h)
 
-pub range-passed : (m from count : ℕ) → m ≤ 16 → 2 ^ m < from → false ≡ inRange m from count
-unfolding inRange
+pub range-passed : (m from count : ℕ) → m ≤ 16 → 2 ^ m < from → false ≡ areSlices m from count
+unfolding areSlices
 range-passed m from count h l = rw (le-leb m 16 h, lt-leb (from + count) (2 ^ m) (omega arith))
 
-pub range-tested : (m from count : ℕ) → m ≤ 16 → from ≤ 2 ^ m → leb count (2 ^ m - from) ≡ inRange m from count
-unfolding inRange
+pub range-tested : (m from count : ℕ) → m ≤ 16 → from ≤ 2 ^ m → leb count (2 ^ m - from) ≡ areSlices m from count
+unfolding areSlices
 range-tested m from count h l = rw (le-leb m 16 h) (go (leb count (2 ^ m - from)) refl)
   where
     go : (b : Bool) → leb count (2 ^ m - from) ≡ b → leb count (2 ^ m - from) ≡ leb (from + count) (2 ^ m)
     go true e = e ∙ sym (le-leb (from + count) (2 ^ m) (omega (arith, leb-true count (2 ^ m - from) e)))
     go false e = e ∙ sym (lt-leb (from + count) (2 ^ m) (omega (arith, leb-false count (2 ^ m - from) e)))
 
-pub range-holds : (m from count : ℕ) → inRange m from count ≡ true → (m ≤ 16) × (from + count ≤ 2 ^ m)
-unfolding inRange
+pub range-holds : (m from count : ℕ) → areSlices m from count ≡ true → (m ≤ 16) × (from + count ≤ 2 ^ m)
+unfolding areSlices
 range-holds m from count e = go (leb m 16) (leb (from + count) (2 ^ m)) refl refl e
   where
     go : (a b : Bool) → leb m 16 ≡ a → leb (from + count) (2 ^ m) ≡ b → a && b ≡ true → (m ≤ 16) × (from + count ≤ 2 ^ m)
@@ -36,8 +36,8 @@ range-holds m from count e = go (leb m 16) (leb (from + count) (2 ^ m)) refl ref
     go true false p q r = absurd (true≢false (sym r))
     go false b p q r = absurd (true≢false (sym r))
 
-pub range-of : (m from count : ℕ) → m ≤ 16 → from + count ≤ 2 ^ m → inRange m from count ≡ true
-unfolding inRange
+pub range-of : (m from count : ℕ) → m ≤ 16 → from + count ≤ 2 ^ m → areSlices m from count ≡ true
+unfolding areSlices
 range-of m from count h l = rw (le-leb m 16 h, le-leb (from + count) (2 ^ m) l)
 
 -- ---- totals

@@ -18,7 +18,7 @@ use Rattle.circuit.specs.Sum.{Basis}
 use Rattle.circuit.specs.Polynomial.{Polynomial, polynomial}
 use Rattle.slices.specs.declared.slice.Slice.{Slice}
 use Rattle.slices.specs.declared.total.Sums.{Sums}
-use Rattle.slices.specs.Totals.{signedPart, amplitudeAfter, amplitudeOver, share, tallyBelow, readoutAfter, readoutOver, inRange, moderate, moderateCount, strings}
+use Rattle.slices.specs.Totals.{signedPart, amplitudeAfter, amplitudeOver, share, tallyBelow, readoutAfter, readoutOver, areSlices, moderate, moderateCount, strings}
 use Rattle.slices.specs.Packing.{withOutput, Tabled}
 use Rattle.slices.specs.Answers.{sliceAnswer, answerAt, shareOf}
 use Rattle.slices.specs.Walking.{Walked}
@@ -111,7 +111,7 @@ readout-moderate m f C X Y w h l = le-leb (readoutAfter m f C X Y w) (2 ^ 60) (o
 
 -- From the total after `from` slices, the total after `count` more.
 pub amplitude-continued : (m : ℕ) (f : Polynomial) (C : Colour) (s : Basis) (from count : ℕ) (total x : ℤ)
-    → x ≡ cond (inRange m from count && moderate total) (total +ℤ amplitudeOver m f C s from count) total
+    → x ≡ cond (areSlices m from count && moderate total) (total +ℤ amplitudeOver m f C s from count) total
     → m ≤ 16 → from + count ≤ 2 ^ m → total ≡ amplitudeAfter m f C s from → x ≡ amplitudeAfter m f C s (from + count)
 amplitude-continued m f C s from count total x e h l t =
     e
@@ -121,7 +121,7 @@ amplitude-continued m f C s from count total x e h l t =
     ∙ sym (amplitude-onward m f C s from count)
 
 pub readout-continued : (m : ℕ) (f : Polynomial) (C : Colour) (X Y : BitString) (from count total x : ℕ)
-    → x ≡ cond (inRange m from count && moderateCount total) (total + readoutOver m f C X Y from count) total
+    → x ≡ cond (areSlices m from count && moderateCount total) (total + readoutOver m f C X Y from count) total
     → m ≤ 16 → from + count ≤ 2 ^ m → total ≡ readoutAfter m f C X Y from → x ≡ readoutAfter m f C X Y (from + count)
 readout-continued m f C X Y from count total x e h l t =
     e

@@ -63,8 +63,8 @@ withStart t s = record { red = s .red ⊞ t .red; blue = s .blue ⊞ t .blue; gr
 -- ---- which slices are worked, and on which totals
 
 -- The `count` slices from slice `from` on are among the 2^m of a sum, m at most 16.
-unfoldable pub inRange : ℕ → ℕ → ℕ → Bool
-inRange m from count = leb m 16 && leb (from + count) (2 ^ m)
+unfoldable pub areSlices : ℕ → ℕ → ℕ → Bool
+areSlices m from count = leb m 16 && leb (from + count) (2 ^ m)
 
 -- An amplitude's total is at most 2^48 from 0, whatever the circuit. One that is more than 2^60 from it is no sum's, and nothing is added to
 -- it: what is added up stays within 64 bits.

@@ -10,7 +10,7 @@ ghost use Rattle.circuit.specs.declared.Gate.{Gate};
 ghost use Rattle.circuit.specs.Colours.{first, second};
 ghost use Rattle.circuit.specs.Polynomial.{polynomial};
 ghost use Rattle.slices.specs.Packing.{Tabled};
-ghost use Rattle.slices.specs.Totals.{strings, amplitudeOver, readoutOver, inRange, moderate, moderateCount};
+ghost use Rattle.slices.specs.Totals.{strings, amplitudeOver, readoutOver, areSlices, moderate, moderateCount};
 ghost use Rattle.slices.specs.Answers.{sliceAnswer, nought, answerTo};
 ghost use Rattle.slices.specs.Walking.{plusSlice, Walked};
 use crate::slice::Slice;
@@ -86,7 +86,7 @@ fn walk(table: &[u64; 102], m: usize, from: usize, count: usize) -> Sums
 
 // Are there positions and slices of these numbers?
 fn in_range(m: usize, from: usize, count: usize) -> bool
-    ensures { λ r. ⌜ r ≡ inRange m from count ⌝ }
+    ensures { λ r. ⌜ r ≡ areSlices m from count ⌝ }
 {
     if 16 < m {
         return false;
@@ -111,7 +111,7 @@ fn is_moderate(total: i64) -> bool
 // One slice by its number; nought for a number that no slice has.
 pub fn slice(table: [u64; 102], m: usize, n: usize) -> Slice
     ensures { λ x. ⌜ ((gs : List Gate) (C : Colour) (r b g : ℕ) → Tabled m gs C (strings m r b g) table →
-        x ≡ cond (inRange m n 1) (sliceAnswer m (polynomial gs) C (strings m r b g) (highFirst m n)) nought) ⌝ }
+        x ≡ cond (areSlices m n 1) (sliceAnswer m (polynomial gs) C (strings m r b g) (highFirst m n)) nought) ⌝ }
 {
     if !in_range(m, n, 1) {
         return Slice { signed: 0, rank: 0 };
@@ -124,7 +124,7 @@ pub fn slice(table: [u64; 102], m: usize, n: usize) -> Slice
 // is too large for a sum's.
 pub fn amplitude(table: [u64; 102], m: usize, from: usize, count: usize, total: i64) -> i64
     ensures { λ x. ⌜ ((gs : List Gate) (C : Colour) (r b g : ℕ) → Tabled m gs C (strings m r b g) table →
-        x ≡ cond (inRange m from count && moderate total) (total +ℤ amplitudeOver m (polynomial gs) C (strings m r b g) from count) total) ⌝ }
+        x ≡ cond (areSlices m from count && moderate total) (total +ℤ amplitudeOver m (polynomial gs) C (strings m r b g) from count) total) ⌝ }
 {
     if !in_range(m, from, count) {
         return total; // an amplitude has no such slices
@@ -140,7 +140,7 @@ pub fn amplitude(table: [u64; 102], m: usize, from: usize, count: usize, total: 
 // large for a sum's.
 pub fn readout(table: [u64; 102], m: usize, from: usize, count: usize, total: u64) -> u64
     ensures { λ x. ⌜ ((gs : List Gate) (C : Colour) (r b g : ℕ) → Tabled m gs C (strings m r b g) table →
-        x ≡ cond (inRange m from count && moderateCount total)
+        x ≡ cond (areSlices m from count && moderateCount total)
         (total + readoutOver m (polynomial gs) C (first C (strings m r b g)) (second C (strings m r b g)) from count) total) ⌝ }
 {
     if !in_range(m, from, count) {

@@ -21,7 +21,8 @@ use Rattle.text.specs.declared.BitsAt.the-variants.{Read as BitsRead, Mi
 
 -- ---- what is held of an operand
 
--- Stands for every number above 65,536, the largest that any form allows (`capped-exact`, `capped-above`).
+-- Stands for every number above 65,536, the largest that any form allows (`capped-exact`, `capped-above`; what rests on them: `within-capped` of
+-- `refusals`).
 abbrev pub aboveAll : ℕ
 aboveAll = 65537
 

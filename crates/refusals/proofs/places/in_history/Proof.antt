@@ -1,5 +1,5 @@
--- The free places are compared with the gates of the line, without a sum that could wrap; what is held is enough for it (`history-told`).
-use Prim.Native.Nat.{_+_}
+-- The free places are compared with the gates of the line; what is held is enough for it (`history-told`).
+use Prim.Native.Nat.{_-_}
 use mathlib.Core.Path.{sym, _∙_}
 use native.Mathlib.Omega.{arith}
 use borrow.Author.Tests.{lt-ltb, le-ltb}
@@ -20,44 +20,28 @@ returns c =
     let undone = sym (c .before .undoes-more .ensures) ∙ c .if1 .taken in
     λ l t told w. rw (history-told l t (a .row) told (a .room) (a .held) w, undone)
 
-places-of-requires : tie.Need-places-of-requires
-places-of-requires c κs = search needs
-
-returns-2 : tie.Need-returns-2
-unfolding orElse refusedIf
-returns-2 c =
-    let a = c .before .before .before .before .args in
-    let undone = sym (c .before .before .before .undoes-more .ensures) ∙ c .before .before .if1 .left in
-    let full = lt-ltb (places (a .room)) (a .held + countOf (a .row .gates)) (omega (arith, c .before .places-of .ensures)) in
-    λ l t told w. rw (history-told l t (a .row) told (a .room) (a .held) w, undone, full)
+free-places-requires : tie.Need-free-places-requires
+free-places-requires c κs = search needs
 
 gate-count-requires : tie.Need-gate-count-requires
 gate-count-requires c κs = search needs
 
+returns-2 : tie.Need-returns-2
+unfolding orElse refusedIf
+returns-2 c =
+    let a = c .before .before .before .before .before .args in
+    let undone = sym (c .before .before .before .before .undoes-more .ensures) ∙ c .before .before .before .if1 .left in
+    let full = lt-ltb (places (a .room) - a .held) (countOf (a .row .gates)) (omega (arith, c .before .before .free-places .ensures, c .before .gate-count .ensures)) in
+    λ l t told w. rw (history-told l t (a .row) told (a .room) (a .held) w, undone, full)
+
 returns-3 : tie.Need-returns-3
 unfolding orElse refusedIf
 returns-3 c =
-    let a = c .before .before .before .before .before .before .args in
-    let undone = sym (c .before .before .before .before .before .undoes-more .ensures) ∙ c .before .before .before .before .if1 .left in
-    let full = lt-ltb (places (a .room)) (a .held + countOf (a .row .gates)) (omega (arith, c .before .before .before .places-of .ensures, c .before .gate-count .ensures)) in
-    λ l t told w. rw (history-told l t (a .row) told (a .room) (a .held) w, undone, full)
-
-returns-4 : tie.Need-returns-4
-unfolding orElse refusedIf
-returns-4 c =
-    let a = c .before .before .before .before .before .before .args in
-    let undone = sym (c .before .before .before .before .before .undoes-more .ensures) ∙ c .before .before .before .before .if1 .left in
-    let fits = le-ltb (places (a .room)) (a .held + countOf (a .row .gates)) (omega (arith, c .before .before .before .places-of .ensures, c .before .gate-count .ensures)) in
+    let a = c .before .before .before .before .before .args in
+    let undone = sym (c .before .before .before .before .undoes-more .ensures) ∙ c .before .before .before .if1 .left in
+    let fits = le-ltb (places (a .room) - a .held) (countOf (a .row .gates)) (omega (arith, c .before .before .free-places .ensures, c .before .gate-count .ensures)) in
     λ l t told w. rw (history-told l t (a .row) told (a .room) (a .held) w, undone, fits)
 
 pub in-history-spec : {M : Type 1} → statement M
 in-history-spec =
-    tie.close
-    (tie.spec
-    undoes-more-requires
-    returns
-    places-of-requires
-    returns-2
-    gate-count-requires
-    returns-3
-    returns-4)
+    tie.close (tie.spec undoes-more-requires returns free-places-requires gate-count-requires returns-2 returns-3)

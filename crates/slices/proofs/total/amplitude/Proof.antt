@@ -8,7 +8,7 @@ use lib.Pow.{pow-mono}
 use mir.Facts.{toZ-ofZ}
 use borrow.Author.Tests.{not-true, not-false}
 use Rattle.gf2.proofs.Bounds.{add-abs}
-use Rattle.slices.specs.Totals.{inRange, moderate}
+use Rattle.slices.specs.Totals.{areSlices, moderate}
 use Rattle.slices.proofs.OutcomeTests.{abs-fits}
 use Rattle.slices.proofs.EntryChecks.{range-holds, moderate-holds}
 use Rattle.slices.proofs.SliceTotals.{walked-amplitude}
@@ -23,7 +23,7 @@ returns : tie.Need-returns
 returns c gs C r b g t =
     let s : _ = c .before .before in
     let a : _ = s .args in
-    let n : inRange (a .m) (a .from) (a .count) ≡ false = sym (c .before .in-range .ensures) ∙ not-true _ (c .if1 .taken) in
+    let n : areSlices (a .m) (a .from) (a .count) ≡ false = sym (c .before .in-range .ensures) ∙ not-true _ (c .if1 .taken) in
     rw n (toZ-ofZ (s .fits .total))
 
 is-moderate-requires : tie.Need-is-moderate-requires
@@ -33,7 +33,7 @@ returns-2 : tie.Need-returns-2
 returns-2 c gs C r b g t =
     let s : _ = c .before .before .before .before in
     let a : _ = s .args in
-    let y : inRange (a .m) (a .from) (a .count) ≡ true = sym (c .before .before .before .in-range .ensures) ∙ not-false _ (c .before .before .if1 .left) in
+    let y : areSlices (a .m) (a .from) (a .count) ≡ true = sym (c .before .before .before .in-range .ensures) ∙ not-false _ (c .before .before .if1 .left) in
     let n : moderate (a .total) ≡ false = sym (c .before .is-moderate .ensures ∙ ap moderate (toZ-ofZ (s .fits .total))) ∙ not-true _ (c .if2 .taken) in
     rw (y, n) (toZ-ofZ (s .fits .total))
 
@@ -56,7 +56,7 @@ returns-3 c gs C r b g t =
     let s : _ = c .before .before .before .before .before .before .before .before in
     let a : _ = s .args in
     let w : _ = c .before .before .walk in
-    let y : inRange (a .m) (a .from) (a .count) ≡ true = sym (c .before .before .before .before .before .before .before .in-range .ensures) ∙ not-false _ (c .before .before .before .before .before .before .if1 .left) in
+    let y : areSlices (a .m) (a .from) (a .count) ≡ true = sym (c .before .before .before .before .before .before .before .in-range .ensures) ∙ not-false _ (c .before .before .before .before .before .before .if1 .left) in
     let n : moderate (a .total) ≡ true = sym (c .before .before .before .before .before .is-moderate .ensures ∙ ap moderate (toZ-ofZ (s .fits .total))) ∙ not-false _ (c .before .before .before .before .if2 .left) in
     let p : _ = range-holds (a .m) (a .from) (a .count) y in
     rw (y, n)

@@ -5,7 +5,7 @@ use Prim.Native.Nat.{ℕ, _+_, _^_}
 use native.Mathlib.Omega.{arith}
 use lib.Pow.{pow-mono}
 use borrow.Author.Tests.{not-true, not-false, le-leb, lt-leb}
-use Rattle.slices.specs.Totals.{inRange, moderateCount}
+use Rattle.slices.specs.Totals.{areSlices, moderateCount}
 use Rattle.slices.proofs.EntryChecks.{range-holds}
 use Rattle.slices.proofs.SliceTotals.{walked-readout}
 use borrow.Author.Needs.{needs}
@@ -18,14 +18,14 @@ in-range-requires c κs = search needs
 returns : tie.Need-returns
 returns c gs C r b g t =
     let a : _ = c .before .before .args in
-    let n : inRange (a .m) (a .from) (a .count) ≡ false = sym (c .before .in-range .ensures) ∙ not-true _ (c .if1 .taken) in
+    let n : areSlices (a .m) (a .from) (a .count) ≡ false = sym (c .before .in-range .ensures) ∙ not-true _ (c .if1 .taken) in
     rw n
 
 returns-2 : tie.Need-returns-2
 unfolding moderateCount
 returns-2 c gs C r b g t =
     let a : _ = c .before .before .before .args in
-    let y : inRange (a .m) (a .from) (a .count) ≡ true = sym (c .before .before .in-range .ensures) ∙ not-false _ (c .before .if1 .left) in
+    let y : areSlices (a .m) (a .from) (a .count) ≡ true = sym (c .before .before .in-range .ensures) ∙ not-false _ (c .before .if1 .left) in
     rw (y, lt-leb (a .total) (2 ^ 60) (c .if2 .taken))
 
 walk-requires : tie.Need-walk-requires
@@ -42,7 +42,7 @@ unfolding moderateCount
 returns-3 c gs C r b g t =
     let a : _ = c .before .before .before .before .before .before .args in
     let w : _ = c .before .walk in
-    let y : inRange (a .m) (a .from) (a .count) ≡ true = sym (c .before .before .before .before .before .in-range .ensures) ∙ not-false _ (c .before .before .before .before .if1 .left) in
+    let y : areSlices (a .m) (a .from) (a .count) ≡ true = sym (c .before .before .before .before .before .in-range .ensures) ∙ not-false _ (c .before .before .before .before .if1 .left) in
     rw (y, le-leb (a .total) (2 ^ 60) (c .before .before .before .if2 .left))
     (ap (λ (x : ℕ). a .total + x) (walked-readout (a .m) gs C r b g (a .t1) t (range-holds (a .m) (a .from) (a .count) y .0) (a .from) (a .count) (w .result) (w .ensures)))
 

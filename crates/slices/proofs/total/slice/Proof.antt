@@ -6,7 +6,7 @@ use Rattle.circuit.specs.Polynomial.{polynomial}
 use Rattle.elimination.specs.Rows.{pivots}
 use Rattle.elimination.specs.State.{begun}
 use borrow.Author.Tests.{not-true, not-false}
-use Rattle.slices.specs.Totals.{inRange, strings}
+use Rattle.slices.specs.Totals.{areSlices, strings}
 use Rattle.slices.specs.Packing.{withOutput}
 use Rattle.slices.specs.Answers.{answerOf, answerTo, answerAt}
 use Rattle.slices.proofs.EntryChecks.{range-holds}
@@ -22,7 +22,7 @@ in-range-requires c κs = search needs
 returns : tie.Need-returns
 returns c gs C r b g t =
     let a : _ = c .before .before .args in
-    let n : inRange (a .m) (a .n) 1 ≡ false = sym (c .before .in-range .ensures) ∙ not-true _ (c .if1 .taken) in
+    let n : areSlices (a .m) (a .n) 1 ≡ false = sym (c .before .in-range .ensures) ∙ not-true _ (c .if1 .taken) in
     rw n
 
 rows-at-requires : tie.Need-rows-at-requires
@@ -43,7 +43,7 @@ returns-2 c gs C r b g t =
     let a : _ = c .before .before .before .before .before .before .args in
     let o : _ = c .before .eliminate in
     let x : _ = c .before .before .rows-at in
-    let y : inRange (a .m) (a .n) 1 ≡ true = sym (c .before .before .before .before .before .in-range .ensures) ∙ not-false _ (c .before .before .before .before .if1 .left) in
+    let y : areSlices (a .m) (a .n) 1 ≡ true = sym (c .before .before .before .before .before .in-range .ensures) ∙ not-false _ (c .before .before .before .before .if1 .left) in
     rw y
     (c .answer .ensures
     ∙ ap (answerOf (a .m)) (outcome-is (o .result) (pivots 16 (begun (x .result))) (o .ensures .0) (o .ensures .1))

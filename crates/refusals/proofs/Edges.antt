@@ -1,0 +1,36 @@
+-- The edges of the ranges of document 01, computed: the last number taken and the first refused by 9, on both sides.
+use Prim.Native.Nat.{ℕ}
+use mathlib.Core.Path.{_≡_, refl}
+use mathlib.Core.List.{List, [], _∷_, map}
+use lib.ListN.{replicate}
+use Rattle.circuit.specs.declared.Gate.the-variants.{Ccz}
+use Rattle.circuit.specs.Sum.{isPosition}
+use Rattle.lines.specs.Typed.{Typed, circuit, gate, layer, undo, step, row}
+use Rattle.refusals.specs.Refusals.{orElse, refusedIf, within, inRange, allInRange, onItself, anyOnItself, outOfRange, anyNotLong, operandRefusal}
+
+-- What the place Operands gives for some forms, in a circuit of two positions.
+abbrev pub refusals : List Typed → List ℕ
+refusals ts = map (λ (t : Typed). operandRefusal 2 (row t)) ts
+
+abbrev pub layers : List ℕ → List Typed
+layers ns = map (λ (n : ℕ). layer (replicate n (Ccz 1 1 1))) ns
+
+pub edges-circuit : refusals (circuit 0 ∷ circuit 1 ∷ circuit 16 ∷ circuit 17 ∷ []) ≡ 9 ∷ 0 ∷ 0 ∷ 9 ∷ []
+unfolding operandRefusal outOfRange orElse refusedIf within allInRange anyOnItself anyNotLong row
+edges-circuit = refl
+
+pub edges-undo : refusals (undo 0 ∷ undo 1 ∷ undo 4096 ∷ undo 4097 ∷ []) ≡ 9 ∷ 0 ∷ 0 ∷ 9 ∷ []
+unfolding operandRefusal outOfRange orElse refusedIf within allInRange anyOnItself anyNotLong row
+edges-undo = refl
+
+pub edges-step : refusals (step 0 ∷ step 1 ∷ step 65536 ∷ step 65537 ∷ []) ≡ 9 ∷ 0 ∷ 0 ∷ 9 ∷ []
+unfolding operandRefusal outOfRange orElse refusedIf within allInRange anyOnItself anyNotLong row
+edges-step = refl
+
+pub edges-layer : refusals (layers (0 ∷ 1 ∷ 48 ∷ 49 ∷ [])) ≡ 9 ∷ 0 ∷ 0 ∷ 9 ∷ []
+unfolding operandRefusal outOfRange orElse refusedIf within inRange allInRange isPosition onItself anyOnItself anyNotLong row
+edges-layer = refl
+
+pub edges-position : refusals (gate (Ccz 0 1 1) ∷ gate (Ccz 1 1 1) ∷ gate (Ccz 2 2 2) ∷ gate (Ccz 1 1 3) ∷ []) ≡ 9 ∷ 0 ∷ 0 ∷ 9 ∷ []
+unfolding operandRefusal outOfRange orElse refusedIf within inRange allInRange isPosition onItself anyOnItself anyNotLong row
+edges-position = refl
