@@ -151,7 +151,8 @@ module _ (input chunk : List ℕ) (from₀ : ℕ) (s₀ : Session) (pending₀ :
 pub chunk-followed : (input chunk : List ℕ) (r : Reading) (history₀ out₀ : List ℕ) (f₀ : Follows input r history₀ out₀)
     (from : ℕ) (s : Session) (pending : Pending) (history out : List ℕ) (f : Frame) (is : f ≡ scanned chunk from pending) →
     AmidOn input chunk 0 (r .session) (r .pending) history₀ out₀ (chunk-begun input chunk r history₀ out₀ f₀) from s pending history out →
-    {left : ℕ} → f .complete ≡ false → FollowsOn input r history₀ out₀ f₀ chunk (record { session = s; pending = f .pending; more = true; left = left }) history out
+    {left : ℕ} → f .complete ≡ false
+    → FollowsOn input r history₀ out₀ f₀ chunk (record { session = s; pending = f .pending; more = true; left = left }) history out (buffered out (s .waiting))
 unfolding chunk-ended chunk-begun
 chunk-followed input chunk r history₀ out₀ f₀ from s pending history out f is o none =
     record {

@@ -16,7 +16,7 @@ use Rattle.session.specs.declared.Session.{Session}
 use Rattle.session.specs.declared.Reading.{Reading}
 use Rattle.session.specs.Session.{Progress, begun, withLines, sessionOf}
 use Rattle.session.specs.Turns.{delivered, FollowsOn, LastSaid, Received, Flushed, Turned, firstReading}
-use Rattle.session.specs.Program.{At, Follows, EachSome, Ran}
+use Rattle.session.specs.Program.{buffered, At, Follows, EachSome, Ran}
 use Rattle.session.proofs.WhatWaits.{waits-nothing}
 
 -- ---- what was read
@@ -31,10 +31,10 @@ module _ (chunk : List ℕ) (got : ℤ) {count : ℕ} (counts : Counts count chu
 
   module _ {input : List ℕ} {r r' : Reading} {h₀ out₀ history out : List ℕ} {f : Follows input r h₀ out₀} where
     pub read-ended : count ≡ 0 → r' .more ≡ false → r' .left ≡ r .left → At (sessionOf input) (r' .session) history out
-        → LastSaid input r h₀ out₀ f (r' .session .waiting) out → Received input r h₀ out₀ f chunk got r' history out
+        → LastSaid input r h₀ out₀ f (buffered out (r' .session .waiting)) → Received input r h₀ out₀ f chunk got r' history out
     read-ended none stops left at said = record { ended = λ _. (stops, left, at, said); goes = λ some. absurd (omega (arith, delivered-length)) }
 
-    pub read-taken : {front : List ℕ} → (count ≡ 0 → ⊥) → front ≡ take count chunk → r' .more ≡ true → r' .left + 1 ≡ r .left → FollowsOn input r h₀ out₀ f front r' history out
+    pub read-taken : {front : List ℕ} → (count ≡ 0 → ⊥) → front ≡ take count chunk → r' .more ≡ true → r' .left + 1 ≡ r .left → FollowsOn input r h₀ out₀ f front r' history out (buffered out (r' .session .waiting))
         → Received input r h₀ out₀ f chunk got r' history out
     read-taken some front more left taken =
         record { ended = λ none. absurd (some (sym delivered-length ∙ none)); goes = λ _. (more, left, rw (delivered-is, ← front) taken) }
@@ -47,12 +47,13 @@ still-at {s' = s'} at same none =
     record { held = rw same (at .held); history-is = at .history-is; size = at .size; waits = waits-nothing (s' .waiting) (at .waits) none }
 
 module _ {input : List ℕ} {r r₁ r' : Reading} {h₀ out₀ chunk history out : List ℕ} {f : Follows input r h₀ out₀} {got : ℤ} {w : Waiting} where
-  pub turn-taken : Received input r h₀ out₀ f chunk got r₁ history out → Flushed r₁ w r' → w .len ≡ 0 → Turned input r chunk r' history out
+  pub turn-taken : Received input r h₀ out₀ f chunk got r₁ history out → Flushed r₁ w r' → w .len ≡ 0 → Turned input r h₀ out₀ f chunk r' history out
   turn-taken taken after empty =
       let nothing : r' .session .waiting .len ≡ 0 = ap (λ (v : Waiting). v .len) (after .waiting) ∙ empty in
       let sound : w .sound ≡ r' .session .waiting .sound = ap (λ (v : Waiting). v .sound) (sym (after .waiting)) in
       record {
         got = got;
+        waited = r₁ .session .waiting .len;
         nothing = nothing;
         failed = λ failed. after .more ∙ ap (λ (b : Bool). r₁ .more && b) (sound ∙ failed) ∙ and-false (r₁ .more);
         ended = λ none.
@@ -60,6 +61,7 @@ module _ {input : List ℕ} {r r₁ r' : Reading} {h₀ out₀ chunk history out
               after .more ∙ ap (λ (b : Bool). b && w .sound) (end .0),
               after .left ∙ end .1,
               still-at (end .2) (after .state) nothing,
+              end .3,
             );
         goes = λ some.
             let on = taken .goes some in
@@ -67,11 +69,17 @@ module _ {input : List ℕ} {r r₁ r' : Reading} {h₀ out₀ chunk history out
               λ went. after .more ∙ ap₂ _&&_ (on .0) (sound ∙ went),
               ap (λ (n : ℕ). n + 1) (after .left) ∙ on .1,
               record {
-                lines = follows .lines;
-                begun-line = follows .begun-line;
-                cut = follows .cut;
-                kept = after .pending ∙ follows .kept;
-                progress = still-at (follows .progress) (after .state) nothing;
+                follows =
+                    record {
+                      lines = follows .lines;
+                      begun-line = follows .begun-line;
+                      cut = follows .cut;
+                      kept = after .pending ∙ follows .kept;
+                      progress = still-at (follows .progress) (after .state) nothing;
+                    };
+                completed = on .2 .completed;
+                taken = on .2 .taken;
+                says = on .2 .says;
               },
             );
       }
@@ -92,8 +100,8 @@ unfoldable pub ahead : Reading → ℕ
 ahead r = cond (r .more) 1 0 + r .left
 
 module _ {r r' : Reading} {history out history' out' chunk : List ℕ} (ran : Ran r history out) (more : r .more ≡ true)
-    (turned : (input : List ℕ) → Follows input r history out → Turned input r chunk r' history' out') where
-  turn : Turned (flatten (ran .reads)) r chunk r' history' out'
+    (turned : (input : List ℕ) (f : Follows input r history out) → Turned input r history out f chunk r' history' out') where
+  turn : Turned (flatten (ran .reads)) r history out (ran .goes more) chunk r' history' out'
   turn = turned (flatten (ran .reads)) (ran .goes more)
 
   abbrev came : List ℕ
@@ -124,7 +132,7 @@ module _ {r r' : Reading} {history out history' out' chunk : List ℕ} (ran : Ra
             nothing = turn .nothing;
             failed = turn .failed;
             ended = λ no sound. absurd (true≢false (sym (on .0 sound) ∙ no));
-            goes = λ yes. rw (flatten-then (ran .reads) came) (on .2);
+            goes = λ yes. rw (flatten-then (ran .reads) came) (on .2 .follows);
           }
 
   pub turn-nears : ahead r' < ahead r

@@ -161,7 +161,8 @@ fn take_pending(session: Session, history: &mut [u32], out: &mut [u8], pending: 
 fn take_chunk(reading: Reading, history: &mut [u32], out: &mut [u8], chunk: &[u8]) -> Reading
     requires { ⌜ 1 ≤ reading .left ⌝ }
     ensures { λ r. ⌜ ((input : List ℕ) (f : Follows input reading (now (history .entry)) (now (out .entry))) →
-        FollowsOn input reading (now (history .entry)) (now (out .entry)) f (now (chunk .entry)) r (now (history .exit)) (now (out .exit))) ⌝ }
+        FollowsOn input reading (now (history .entry)) (now (out .entry)) f (now (chunk .entry)) r (now (history .exit)) (now (out .exit))
+        (buffered (now (out .exit)) (r .session .waiting))) ⌝ }
     ensures { λ r. ⌜ r .more ≡ true ⌝ }
     ensures { λ r. ⌜ r .left + 1 ≡ reading .left ⌝ }
     ensures { λ r. ⌜ FailureKept (reading .session .waiting) (r .session .waiting) ⌝ }
@@ -193,7 +194,7 @@ fn take_last(reading: Reading, history: &mut [u32], out: &mut [u8]) -> Session
         At (sessionOf input) r (now (history .exit)) (now (out .exit))) ⌝ }
     ensures { λ r. ⌜ FailureKept (reading .session .waiting) (r .waiting) ⌝ }
     ensures { λ r. ⌜ ((input : List ℕ) (f : Follows input reading (now (history .entry)) (now (out .entry))) →
-        LastSaid input reading (now (history .entry)) (now (out .entry)) f (r .waiting) (now (out .exit))) ⌝ }
+        LastSaid input reading (now (history .entry)) (now (out .entry)) f (buffered (now (out .exit)) (r .waiting))) ⌝ }
 {
     let pending = reading.pending;
     take_pending(reading.session, history, out, pending)
@@ -247,8 +248,8 @@ fn after_flush(reading: Reading, flushed: Waiting) -> Reading
 // Reads once, takes what was read, and writes what is answered.
 fn turn(reading: Reading, history: &mut [u32], out: &mut [u8], chunk: &mut [u8]) -> Reading
     requires { ⌜ 1 ≤ reading .left ⌝ }
-    ensures { λ r. ⌜ ((input : List ℕ) → Follows input reading (now (history .entry)) (now (out .entry)) →
-        Turned input reading (now (chunk .exit)) r (now (history .exit)) (now (out .exit))) ⌝ }
+    ensures { λ r. ⌜ ((input : List ℕ) (f : Follows input reading (now (history .entry)) (now (out .entry))) →
+        Turned input reading (now (history .entry)) (now (out .entry)) f (now (chunk .exit)) r (now (history .exit)) (now (out .exit))) ⌝ }
     ensures { λ r. ⌜ FailureKept (reading .session .waiting) (r .session .waiting) ⌝ }
 {
     let got = libc::read(STDIN_FILENO, chunk);
