@@ -129,7 +129,7 @@ module _ (input chunk : List ℕ) (from₀ : ℕ) (s₀ : Session) (pending₀ :
     pub on-line : {s' : Session} {history' out' : List ℕ} {empty : Pending} → f .complete ≡ true → empty ≡ pendingOf [] →
         ((p : Progress) (line : List ℕ) → At p s history out → f .pending ≡ pendingOf line → At (withLine p line) s' history' out') →
         ((p : Progress) (line : List ℕ) → At p s history out → f .pending ≡ pendingOf line →
-            buffered out' (s' .waiting) ≡ allSaidInto (buffered out (s .waiting)) (saidTo p line)) →
+        buffered out' (s' .waiting) ≡ allSaidInto (buffered out (s .waiting)) (saidTo p line)) →
         AmidOn input chunk from₀ s₀ pending₀ history₀ out₀ a₀ (f .next) s' empty history' out'
     unfolding line-ended
     on-line some none taken said =
@@ -144,7 +144,7 @@ module _ (input chunk : List ℕ) (from₀ : ℕ) (s₀ : Session) (pending₀ :
           says =
               said (withLines begun (a .lines)) line (a .progress) (line-kept input chunk from s pending history out f is a)
               ∙ rw (o .says, then, said-then p₀ (o .completed) line)
-                (sym (into-append (buffered out₀ (s₀ .waiting)) (saidToAll p₀ (o .completed)) (saidTo (withLines p₀ (o .completed)) line)));
+              (sym (into-append (buffered out₀ (s₀ .waiting)) (saidToAll p₀ (o .completed)) (saidTo (withLines p₀ (o .completed)) line)));
         }
 
 -- A chunk from its beginning to its end.

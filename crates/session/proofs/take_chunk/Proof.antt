@@ -16,7 +16,7 @@ abbrev Inv-loop : tie.InvT-loop
 Inv-loop history₀ out₀ chunk left session₀ pending₀ from₀ history out session pending from =
     (length history ≡ length history₀) × (length out ≡ length out₀)
     × ((input : List ℕ) (a : Amid input chunk from₀ session₀ pending₀ history₀ out₀) →
-        AmidOn input chunk from₀ session₀ pending₀ history₀ out₀ a from session pending history out)
+    AmidOn input chunk from₀ session₀ pending₀ history₀ out₀ a from session pending history out)
     × FailureKept (session₀ .waiting) (session .waiting)
 
 abbrev μ-loop : tie.MeasureT-loop
