@@ -17,8 +17,10 @@ use Rattle.framing.proofs.Clipped.{pending-joined}
 use Rattle.framing.proofs.LinesCut.{first-line, no-line-yet}
 use Rattle.session.specs.declared.Session.{Session}
 use Rattle.session.specs.declared.Reading.{Reading}
-use Rattle.session.specs.Session.{asText, Progress, begun, answerTo, withResponse, withLine, withLines, sessionOf}
-use Rattle.session.specs.Program.{At, Follows}
+use Rattle.session.specs.Session.{asText, Progress, begun, answerTo, withResponse, withLine, withLines, saidTo, saidToAll, sessionOf}
+use Rattle.session.specs.Program.{buffered, allSaidInto, At, Follows}
+use Rattle.session.specs.Turns.{FollowsOn}
+use Rattle.session.proofs.WhatWaits.{into-append}
 
 -- ---- lines in turn
 
@@ -26,6 +28,18 @@ lines-then : (p : Progress) (ls : List (List ℕ)) (line : List ℕ) → withLin
 unfolding withLines
 lines-then p [] line = refl
 lines-then p (l ∷ ls) line = lines-then (withLine p l) ls line
+
+lines-append : (p : Progress) (ls ms : List (List ℕ)) → withLines p (ls ++ ms) ≡ withLines (withLines p ls) ms
+unfolding withLines
+lines-append p [] ms = refl
+lines-append p (l ∷ ls) ms = lines-append (withLine p l) ls ms
+
+said-then : (p : Progress) (ls : List (List ℕ)) (line : List ℕ) → saidToAll p (ls ++ (line ∷ [])) ≡ saidToAll p ls ++ saidTo (withLines p ls) line
+unfolding withLines saidToAll
+said-then p [] line = append-nil (saidTo p line)
+said-then p (l ∷ ls) line =
+    ap (λ (x : List (List ℕ)). saidTo p l ++ x) (said-then (withLine p l) ls line)
+    ∙ sym (append-assoc (saidTo p l) (saidToAll (withLine p l) ls) (saidTo (withLines (withLine p l) ls) line))
 
 -- A line of no bytes changes nothing.
 empty-taken : (p : Progress) → withLine p [] ≡ p
@@ -96,6 +110,57 @@ module _ (input chunk : List ℕ) (from : ℕ) (s : Session) (pending : Pending)
         kept = none;
         progress = rw (lines-then begun (a .lines) lineNow) (taken (withLines begun (a .lines)) lineNow (a .progress) line-kept);
       }
+
+-- From one such point to another: the answers to the lines in between were said.
+pub record AmidOn (input chunk : List ℕ) (from₀ : ℕ) (s₀ : Session) (pending₀ : Pending) (history₀ out₀ : List ℕ) (a₀ : Amid input chunk from₀ s₀ pending₀ history₀ out₀)
+    (from : ℕ) (s : Session) (pending : Pending) (history out : List ℕ) : Type 0 where
+  pub amid : Amid input chunk from s pending history out
+  pub completed : List (List ℕ)
+  pub taken : amid .lines ≡ a₀ .lines ++ completed
+  pub says : buffered out (s .waiting) ≡ allSaidInto (buffered out₀ (s₀ .waiting)) (saidToAll (withLines begun (a₀ .lines)) completed)
+
+module _ (input chunk : List ℕ) (from₀ : ℕ) (s₀ : Session) (pending₀ : Pending) (history₀ out₀ : List ℕ) (a₀ : Amid input chunk from₀ s₀ pending₀ history₀ out₀) where
+  pub on-begun : AmidOn input chunk from₀ s₀ pending₀ history₀ out₀ a₀ from₀ s₀ pending₀ history₀ out₀
+  unfolding saidToAll allSaidInto
+  on-begun = record { amid = a₀; completed = []; taken = sym (append-nil (a₀ .lines)); says = refl }
+
+  module _ (from : ℕ) (s : Session) (pending : Pending) (history out : List ℕ) (f : Frame) (is : f ≡ scanned chunk from pending)
+      (o : AmidOn input chunk from₀ s₀ pending₀ history₀ out₀ a₀ from s pending history out) where
+    pub on-line : {s' : Session} {history' out' : List ℕ} {empty : Pending} → f .complete ≡ true → empty ≡ pendingOf [] →
+        ((p : Progress) (line : List ℕ) → At p s history out → f .pending ≡ pendingOf line → At (withLine p line) s' history' out') →
+        ((p : Progress) (line : List ℕ) → At p s history out → f .pending ≡ pendingOf line →
+        buffered out' (s' .waiting) ≡ allSaidInto (buffered out (s .waiting)) (saidTo p line)) →
+        AmidOn input chunk from₀ s₀ pending₀ history₀ out₀ a₀ (f .next) s' empty history' out'
+    unfolding line-ended
+    on-line some none taken said =
+        let a : Amid input chunk from s pending history out = o .amid in
+        let line : List ℕ = lineNow input chunk from s pending history out f is a in
+        let p₀ : Progress = withLines begun (a₀ .lines) in
+        let then : withLines begun (a .lines) ≡ withLines p₀ (o .completed) = ap (withLines begun) (o .taken) ∙ lines-append begun (a₀ .lines) (o .completed) in
+        record {
+          amid = line-ended input chunk from s pending history out f is a some none taken;
+          completed = o .completed ++ (line ∷ []);
+          taken = ap (λ (ls : List (List ℕ)). ls ++ (line ∷ [])) (o .taken) ∙ append-assoc (a₀ .lines) (o .completed) (line ∷ []);
+          says =
+              said (withLines begun (a .lines)) line (a .progress) (line-kept input chunk from s pending history out f is a)
+              ∙ rw (o .says, then, said-then p₀ (o .completed) line)
+              (sym (into-append (buffered out₀ (s₀ .waiting)) (saidToAll p₀ (o .completed)) (saidTo (withLines p₀ (o .completed)) line)));
+        }
+
+-- A chunk from its beginning to its end.
+pub chunk-followed : (input chunk : List ℕ) (r : Reading) (history₀ out₀ : List ℕ) (f₀ : Follows input r history₀ out₀)
+    (from : ℕ) (s : Session) (pending : Pending) (history out : List ℕ) (f : Frame) (is : f ≡ scanned chunk from pending) →
+    AmidOn input chunk 0 (r .session) (r .pending) history₀ out₀ (chunk-begun input chunk r history₀ out₀ f₀) from s pending history out →
+    {left : ℕ} → f .complete ≡ false
+    → FollowsOn input r history₀ out₀ f₀ chunk (record { session = s; pending = f .pending; more = true; left = left }) history out (buffered out (s .waiting))
+unfolding chunk-ended chunk-begun
+chunk-followed input chunk r history₀ out₀ f₀ from s pending history out f is o none =
+    record {
+      follows = chunk-ended input chunk from s pending history out f is (o .amid) none;
+      completed = o .completed;
+      taken = o .taken;
+      says = o .says;
+    }
 
 -- ---- the end of the input
 

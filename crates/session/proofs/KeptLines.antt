@@ -8,7 +8,7 @@ use Rattle.engine.specs.Calls.{answering, response}
 use Rattle.framing.specs.declared.Pending.{Pending}
 use Rattle.framing.specs.Framing.{clipped, pendingOf, bytesOf}
 use Rattle.framing.proofs.Clipped.{clipped-read-alike, clipped-empty-alike, pending-bytes}
-use Rattle.session.specs.Session.{Progress, answerTo, withResponse, withLine}
+use Rattle.session.specs.Session.{Progress, answerTo, withResponse, withLine, saidTo}
 
 clipped-response : (e : Engine) (h line : List ℕ) (room : ℕ) → response e h (clipped line) room ≡ response e h line room
 unfolding response answering
@@ -22,3 +22,11 @@ clipped-taken p line = rw (clipped-response (p .engine) (p .history) line 64, cl
 pub kept-taken : (p : Progress) (line : List ℕ) (kept : Pending) → kept ≡ pendingOf line → withLine p (take (kept .len) (kept .bytes)) ≡ withLine p line
 unfolding bytesOf
 kept-taken p line kept is = ap (withLine p) (ap bytesOf is ∙ pending-bytes line) ∙ clipped-taken p line
+
+clipped-said : (p : Progress) (line : List ℕ) → saidTo p (clipped line) ≡ saidTo p line
+unfolding saidTo answerTo
+clipped-said p line = rw (clipped-response (p .engine) (p .history) line 64, clipped-empty-alike line)
+
+pub kept-said : (p : Progress) (line : List ℕ) (kept : Pending) → kept ≡ pendingOf line → saidTo p (take (kept .len) (kept .bytes)) ≡ saidTo p line
+unfolding bytesOf
+kept-said p line kept is = ap (saidTo p) (ap bytesOf is ∙ pending-bytes line) ∙ clipped-said p line

@@ -1,7 +1,7 @@
 -- A line taken by the engine: its state and history are those after the line, and its answer is said.
 use Prim.Native.Nat.{ℕ, _<_}
 use native.Mathlib.Omega.{arith}
-use mathlib.Core.Path.{_≡_, sym, ap, _∙_}
+use mathlib.Core.Path.{_≡_, refl, sym, ap, _∙_}
 use mathlib.Core.Bool.{false}
 use mathlib.Core.List.{List, [], _∷_, _++_, append-nil, append-assoc}
 use lib.Dec.{eqb}
@@ -16,11 +16,11 @@ use Rattle.engine.proofs.Outcomes.{bytes-given}
 use Rattle.engine.proofs.TurnTaken.{listed-kept}
 use Rattle.session.specs.declared.Waiting.{Waiting}
 use Rattle.session.specs.declared.Session.{Session}
-use Rattle.session.specs.Session.{asText, laterLines, Progress, answerTo, withResponse, withLine}
-use Rattle.session.specs.Program.{Waits, At}
-use Rattle.session.proofs.WhatWaits.{asText-append}
+use Rattle.session.specs.Session.{asText, laterLines, Progress, answerTo, withResponse, withLine, saidTo}
+use Rattle.session.specs.Program.{buffered, allSaidInto, Waits, At}
+use Rattle.session.proofs.WhatWaits.{asText-append, into-append}
 use Rattle.session.proofs.AnswerBytes.{unanswered, has-bytes}
-use Rattle.session.proofs.ListingSaid.{SaidThere}
+use Rattle.session.proofs.ListingSaid.{SaidThere, PutThere}
 
 module _ (p : Progress) (s : Session) (history out line : List ℕ) (at : At p s history out) {r : Reply} {h' answer answer' : List ℕ}
     (got : Answered (s .state) history line answer r h' answer') (size : length answer ≡ 64) (size' : length answer' ≡ 64) where
@@ -63,7 +63,11 @@ module _ (p : Progress) (s : Session) (history out line : List ℕ) (at : At p s
         waits = rw (none, append-nil) (at .waits);
       }
 
-  module _ (some : r .len ≡ 0 → ⊥) {out₁ : List ℕ} {w₁ : Waiting} {shown : List ℕ} (put : SaidThere out (s .waiting) shown out₁ w₁) (is : shown ≡ take (r .len) answer') where
+  pub skipped-into : r .len ≡ 0 → buffered out (s .waiting) ≡ allSaidInto (buffered out (s .waiting)) (saidTo p line)
+  unfolding after saidTo answerTo allSaidInto
+  skipped-into z = let none = unanswered (p .engine) (p .history) line (sym length-after ∙ z) in rw none refl
+
+  module _ (some : r .len ≡ 0 → ⊥) {out₁ : List ℕ} {w₁ : Waiting} {shown : List ℕ} (put : SaidThere out (s .waiting) shown out₁ w₁) (into : PutThere out (s .waiting) shown out₁ w₁) (is : shown ≡ take (r .len) answer') where
     said-first : Waits (p .said ++ asText (after .bytes ∷ [])) out₁ w₁
     said-first =
         let short : length shown < length out = omega (arith, ap length is ∙ length-take (r .len) answer', at .size) in
@@ -98,3 +102,23 @@ module _ (p : Progress) (s : Session) (history out line : List ℕ) (at : At p s
           size = kept₂ ∙ kept ∙ at .size;
           waits = rw (answered, then) (rest (after .after) h' (p .said ++ asText (after .bytes ∷ [])) held-after (omega (arith, kept, at .size)) said-first);
         }
+
+    first-put : buffered out₁ w₁ ≡ allSaidInto (buffered out (s .waiting)) (after .bytes ∷ [])
+    unfolding allSaidInto
+    first-put =
+        let short : length shown < length out = omega (arith, ap length is ∙ length-take (r .len) answer', at .size) in
+        rw (is, bytes-after) at (into short)
+
+    pub said-into : r .state .listed ≡ false → buffered out₁ w₁ ≡ allSaidInto (buffered out (s .waiting)) (saidTo p line)
+    unfolding after saidTo answerTo
+    said-into quiet = rw (answered, none-later quiet) first-put
+
+    pub listed-into : {out₂ : List ℕ} {w₂ : Waiting} → length out₁ ≡ length out →
+        ((e : Engine) (h said : List ℕ) → Holds e (r .state) h → 64 < length out₁ → Waits said out₁ w₁ → Waits (said ++ asText (laterLines e)) out₂ w₂) →
+        ((e : Engine) (h : List ℕ) → Holds e (r .state) h → 64 < length out₁ → buffered out₂ w₂ ≡ allSaidInto (buffered out₁ w₁) (laterLines e)) →
+        buffered out₂ w₂ ≡ allSaidInto (buffered out (s .waiting)) (saidTo p line)
+    unfolding after saidTo answerTo
+    listed-into kept _ rest =
+        let later : List (List ℕ) = laterLines (after .after) in
+        rw answered
+        (rest (after .after) h' held-after (omega (arith, kept, at .size)) ∙ rw first-put (sym (into-append (buffered out (s .waiting)) (after .bytes ∷ []) later)))

@@ -16,18 +16,25 @@ use Rattle.engine.specs.Calls.{fetchedBytes, FetchAnswered}
 use Rattle.engine.proofs.Outcomes.{bytes-fetched}
 use Rattle.session.specs.declared.Waiting.{Waiting}
 use Rattle.session.specs.Session.{asText, laterLines}
-use Rattle.session.specs.Program.{Waits}
-use Rattle.session.proofs.WhatWaits.{asText-append}
+use Rattle.session.specs.Program.{buffered, saidInto, allSaidInto, Waits}
+use Rattle.session.proofs.WhatWaits.{asText-append, into-append}
 use Rattle.session.proofs.LaterLines.{line-fetched, later-some}
 
 -- What `say` promises.
 abbrev pub SaidThere : List ℕ → Waiting → List ℕ → List ℕ → Waiting → Type 0
 SaidThere out w line out' w' = (said : List ℕ) → length line < length out → Waits said out w → Waits (said ++ asText (line ∷ [])) out' w'
 
+abbrev pub PutThere : List ℕ → Waiting → List ℕ → List ℕ → Waiting → Type 0
+PutThere out w line out' w' = length line < length out → buffered out' w' ≡ saidInto (buffered out w) line
+
 -- The first n of the later lines were said.
 abbrev pub Listed : State → List ℕ → Waiting → ℕ → List ℕ → Waiting → Type 0
 Listed s out₀ w₀ n out w =
     (e : Engine) (h said : List ℕ) → Holds e s h → 64 < length out₀ → Waits said out₀ w₀ → Waits (said ++ asText (take n (laterLines e))) out w
+
+abbrev pub ListedInto : State → List ℕ → Waiting → ℕ → List ℕ → Waiting → Type 0
+ListedInto s out₀ w₀ n out w =
+    (e : Engine) (h : List ℕ) → Holds e s h → 64 < length out₀ → buffered out w ≡ allSaidInto (buffered out₀ w₀) (take n (laterLines e))
 
 -- No later line is empty, so where one is missing there are no more.
 none-left : (e : Engine) (n : ℕ) → length (getD (laterLines e) n []) ≡ 0 → length (laterLines e) ≤ n
@@ -60,9 +67,14 @@ module _ (s : State) (out₀ : List ℕ) (w₀ : Waiting) where
       Waits (said ++ asText (laterLines e)) out w
   all-listed n l e h said held big w few = rw (take-all n (laterLines e) few) at (l e h said held big w)
 
-  module _ (n number : ℕ) {out out' line : List ℕ} {w w' : Waiting} {f : Fetched} {answer answer' : List ℕ} (l : Listed s out₀ w₀ n out w)
+  pub all-into : (n : ℕ) {out : List ℕ} {w : Waiting} → Listed s out₀ w₀ n out w → ListedInto s out₀ w₀ n out w →
+      (e : Engine) (h : List ℕ) → Holds e s h → 64 < length out₀ → length (laterLines e) ≤ n →
+      buffered out w ≡ allSaidInto (buffered out₀ w₀) (laterLines e)
+  all-into n _ l e h held big few = rw (take-all n (laterLines e) few) at (l e h held big)
+
+  module _ (n number : ℕ) {out out' line : List ℕ} {w w' : Waiting} {f : Fetched} {answer answer' : List ℕ} (l : Listed s out₀ w₀ n out w) (b : ListedInto s out₀ w₀ n out w)
       (is : number ≡ suc n) (got : FetchAnswered s number answer f answer') (size : length answer ≡ 64) (size' : length answer' ≡ 64) (same : length out ≡ length out₀)
-      (shown : line ≡ take (f .len) answer') (put : SaidThere out w line out' w') where
+      (shown : line ≡ take (f .len) answer') (put : SaidThere out w line out' w') (into : PutThere out w line out' w') where
     pub one-listed : (f .len ≡ 0 → ⊥) → Listed s out₀ w₀ number out' w'
     one-listed some e h said held big waits =
         let given = got e h held in
@@ -72,3 +84,14 @@ module _ (s : State) (out₀ : List ℕ) (w₀ : Waiting) where
         let short : length line < length out = omega (arith, ap length shown ∙ length-take (f .len) answer') in
         rw (is, take-suc (laterLines e) n [] less, asText-append (take n (laterLines e)) (getD (laterLines e) n [] ∷ []), ← bytes, ← append-assoc said (asText (take n (laterLines e))) (asText (line ∷ [])))
         (put (said ++ asText (take n (laterLines e))) short (l e h said held big waits))
+
+    pub one-into : (f .len ≡ 0 → ⊥) → ListedInto s out₀ w₀ number out' w'
+    unfolding allSaidInto
+    one-into some e h held big =
+        let given = got e h held in
+        let there = ap₂ (fetchedBytes e) is size ∙ line-fetched e n in
+        let bytes : line ≡ getD (laterLines e) n [] = shown ∙ bytes-fetched e number answer f answer' given ∙ there in
+        let less = one-left e n (λ z. some (given .len ∙ ap length there ∙ z)) in
+        let short : length line < length out = omega (arith, ap length shown ∙ length-take (f .len) answer') in
+        rw (is, take-suc (laterLines e) n [] less, into-append (buffered out₀ w₀) (take n (laterLines e)) (getD (laterLines e) n [] ∷ []), ← bytes, ← b e h held big)
+        (into short)

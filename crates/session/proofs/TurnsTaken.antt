@@ -15,8 +15,8 @@ use Rattle.session.specs.declared.Waiting.{Waiting}
 use Rattle.session.specs.declared.Session.{Session}
 use Rattle.session.specs.declared.Reading.{Reading}
 use Rattle.session.specs.Session.{Progress, begun, withLines, sessionOf}
-use Rattle.session.specs.Turns.{delivered, Received, Flushed, Turned, firstReading}
-use Rattle.session.specs.Program.{At, Follows, EachSome, Ran}
+use Rattle.session.specs.Turns.{delivered, FollowsOn, LastSaid, Received, Flushed, Turned, firstReading}
+use Rattle.session.specs.Program.{buffered, At, Follows, EachSome, Ran}
 use Rattle.session.proofs.WhatWaits.{waits-nothing}
 
 -- ---- what was read
@@ -29,12 +29,13 @@ module _ (chunk : List ℕ) (got : ℤ) {count : ℕ} (counts : Counts count chu
   delivered-length : length (delivered got chunk) ≡ count
   delivered-length = ap length delivered-is ∙ sym (counts .1)
 
-  module _ {input : List ℕ} {r r' : Reading} {history out : List ℕ} where
-    pub read-ended : count ≡ 0 → r' .more ≡ false → r' .left ≡ r .left → At (sessionOf input) (r' .session) history out → Received input r chunk got r' history out
-    read-ended none stops left at = record { ended = λ _. (stops, left, at); goes = λ some. absurd (omega (arith, delivered-length)) }
+  module _ {input : List ℕ} {r r' : Reading} {h₀ out₀ history out : List ℕ} {f : Follows input r h₀ out₀} where
+    pub read-ended : count ≡ 0 → r' .more ≡ false → r' .left ≡ r .left → At (sessionOf input) (r' .session) history out
+        → LastSaid input r h₀ out₀ f (buffered out (r' .session .waiting)) → Received input r h₀ out₀ f chunk got r' history out
+    read-ended none stops left at said = record { ended = λ _. (stops, left, at, said); goes = λ some. absurd (omega (arith, delivered-length)) }
 
-    pub read-taken : {front : List ℕ} → (count ≡ 0 → ⊥) → front ≡ take count chunk → r' .more ≡ true → r' .left + 1 ≡ r .left → Follows (input ++ front) r' history out
-        → Received input r chunk got r' history out
+    pub read-taken : {front : List ℕ} → (count ≡ 0 → ⊥) → front ≡ take count chunk → r' .more ≡ true → r' .left + 1 ≡ r .left → FollowsOn input r h₀ out₀ f front r' history out (buffered out (r' .session .waiting))
+        → Received input r h₀ out₀ f chunk got r' history out
     read-taken some front more left taken =
         record { ended = λ none. absurd (some (sym delivered-length ∙ none)); goes = λ _. (more, left, rw (delivered-is, ← front) taken) }
 
@@ -45,13 +46,14 @@ still-at : {p : Progress} {s s' : Session} {history out : List ℕ} → At p s h
 still-at {s' = s'} at same none =
     record { held = rw same (at .held); history-is = at .history-is; size = at .size; waits = waits-nothing (s' .waiting) (at .waits) none }
 
-module _ {input : List ℕ} {r r₁ r' : Reading} {chunk history out : List ℕ} {got : ℤ} {w : Waiting} where
-  pub turn-taken : Received input r chunk got r₁ history out → Flushed r₁ w r' → w .len ≡ 0 → Turned input r chunk r' history out
+module _ {input : List ℕ} {r r₁ r' : Reading} {h₀ out₀ chunk history out : List ℕ} {f : Follows input r h₀ out₀} {got : ℤ} {w : Waiting} where
+  pub turn-taken : Received input r h₀ out₀ f chunk got r₁ history out → Flushed r₁ w r' → w .len ≡ 0 → Turned input r h₀ out₀ f chunk r' history out
   turn-taken taken after empty =
       let nothing : r' .session .waiting .len ≡ 0 = ap (λ (v : Waiting). v .len) (after .waiting) ∙ empty in
       let sound : w .sound ≡ r' .session .waiting .sound = ap (λ (v : Waiting). v .sound) (sym (after .waiting)) in
       record {
         got = got;
+        waited = r₁ .session .waiting .len;
         nothing = nothing;
         failed = λ failed. after .more ∙ ap (λ (b : Bool). r₁ .more && b) (sound ∙ failed) ∙ and-false (r₁ .more);
         ended = λ none.
@@ -59,17 +61,25 @@ module _ {input : List ℕ} {r r₁ r' : Reading} {chunk history out : List ℕ}
               after .more ∙ ap (λ (b : Bool). b && w .sound) (end .0),
               after .left ∙ end .1,
               still-at (end .2) (after .state) nothing,
+              end .3,
             );
         goes = λ some.
-            let on = taken .goes some in (
+            let on = taken .goes some in
+            let follows = on .2 .follows in (
               λ went. after .more ∙ ap₂ _&&_ (on .0) (sound ∙ went),
               ap (λ (n : ℕ). n + 1) (after .left) ∙ on .1,
               record {
-                lines = on .2 .lines;
-                begun-line = on .2 .begun-line;
-                cut = on .2 .cut;
-                kept = after .pending ∙ on .2 .kept;
-                progress = still-at (on .2 .progress) (after .state) nothing;
+                follows =
+                    record {
+                      lines = follows .lines;
+                      begun-line = follows .begun-line;
+                      cut = follows .cut;
+                      kept = after .pending ∙ follows .kept;
+                      progress = still-at (follows .progress) (after .state) nothing;
+                    };
+                completed = on .2 .completed;
+                taken = on .2 .taken;
+                says = on .2 .says;
               },
             );
       }
@@ -90,8 +100,8 @@ unfoldable pub ahead : Reading → ℕ
 ahead r = cond (r .more) 1 0 + r .left
 
 module _ {r r' : Reading} {history out history' out' chunk : List ℕ} (ran : Ran r history out) (more : r .more ≡ true)
-    (turned : (input : List ℕ) → Follows input r history out → Turned input r chunk r' history' out') where
-  turn : Turned (flatten (ran .reads)) r chunk r' history' out'
+    (turned : (input : List ℕ) (f : Follows input r history out) → Turned input r history out f chunk r' history' out') where
+  turn : Turned (flatten (ran .reads)) r history out (ran .goes more) chunk r' history' out'
   turn = turned (flatten (ran .reads)) (ran .goes more)
 
   abbrev came : List ℕ
@@ -122,7 +132,7 @@ module _ {r r' : Reading} {history out history' out' chunk : List ℕ} (ran : Ra
             nothing = turn .nothing;
             failed = turn .failed;
             ended = λ no sound. absurd (true≢false (sym (on .0 sound) ∙ no));
-            goes = λ yes. rw (flatten-then (ran .reads) came) (on .2);
+            goes = λ yes. rw (flatten-then (ran .reads) came) (on .2 .follows);
           }
 
   pub turn-nears : ahead r' < ahead r

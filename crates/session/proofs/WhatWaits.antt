@@ -11,7 +11,7 @@ use Rattle.framing.specs.Framing.{fitting, placed, lineFits, LinePut}
 use Rattle.framing.proofs.Places.{fits-whole}
 use Rattle.session.specs.declared.Waiting.{Waiting}
 use Rattle.session.specs.Session.{asText}
-use Rattle.session.specs.Program.{Waits}
+use Rattle.session.specs.Program.{Buffer, saidInto, allSaidInto, Waits}
 
 pub asText-append : (a b : List (List ℕ)) → asText (a ++ b) ≡ asText a ++ asText b
 unfolding asText
@@ -66,3 +66,43 @@ pub first-waits : {said out out' out'' line : List ℕ} {at first place : ℕ} {
 first-waits {out = out} {line = line} {w = w} {b = b} h p stays again front less =
     let same = left-by h line p (lineFits out (w .len) line) refl stays in
     fitting-waits (waits-nothing (record { len = 0; sound = b }) h refl) line (rw (same, front) at again) (omega arith)
+
+-- ---- the buffer, as an equation
+
+module _ {out line : List ℕ} {at place : ℕ} {out' : List ℕ} (p : LinePut out at line place out') where
+  abbrev Into : List ℕ → ℕ → Type 0
+  Into bytes len = _≡_ {A = Buffer} (record { bytes = bytes; len = len }) (saidInto (record { bytes = out; len = at }) line)
+
+  into-by : (t : Bool) → lineFits out at line ≡ t → at < place → Into out' place
+  unfolding saidInto
+  into-by true f less = rw (f, rw f at (p .stands), rw f at (p .counted))
+  into-by false f less = absurd (omega (arith, rw f at (p .counted)))
+
+  -- The place moved: the line stands behind what waited.
+  pub line-into : at < place → Into out' place
+  line-into = into-by (lineFits out at line) refl
+
+  front-by : {out'' : List ℕ} {first last : ℕ} (t : Bool) → lineFits out at line ≡ t → place ≤ at → LinePut out' first line last out'' → first ≡ 0
+      → length line < length out → Into out'' last
+  unfolding saidInto lineFits
+  front-by true f stays again front less = absurd (omega (arith, rw f at (p .counted)))
+  front-by {out''} {last = last} false f stays again front less =
+      let same : out' ≡ out = rw f at (p .stands) in
+      let put : LinePut out 0 line last out'' = rw (same, front) at again in
+      let room = lt-ltb (length line) (length out - 0) (omega arith) in
+      let counted : last ≡ 0 + (length line + 1) = rw room at (put .counted) in
+      let size : last ≡ length line + 1 = omega (arith, counted) in
+      rw (f, rw room at (put .stands), size)
+
+  -- The place did not move: the line stands in front.
+  pub first-into : {out'' : List ℕ} {first last : ℕ} → place ≤ at → LinePut out' first line last out'' → first ≡ 0 → length line < length out → Into out'' last
+  first-into = front-by (lineFits out at line) refl
+
+pub nothing-into : (b : Buffer) → b ≡ allSaidInto b []
+unfolding allSaidInto
+nothing-into b = refl
+
+pub into-append : (b : Buffer) (xs ys : List (List ℕ)) → allSaidInto b (xs ++ ys) ≡ allSaidInto (allSaidInto b xs) ys
+unfolding allSaidInto
+into-append b [] ys = refl
+into-append b (x ∷ xs) ys = into-append (saidInto b x) xs ys

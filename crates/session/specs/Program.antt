@@ -1,22 +1,44 @@
 -- What the program holds of a session, and where it ends. The contracts of the system's `read` and `write` do not tell which bytes they move. So
 -- that they move those that they report, and that the program makes these calls, is read off the code and tested.
-use mathlib.Core.Bool.{true, false}
+use mathlib.Core.Bool.{true, false, cond}
 use mathlib.Core.List.{List, [], _∷_, _++_, flatten}
 use mathlib.Core.Path.{_≡_}
 use Prim.Native.Nat.{ℕ, _+_, _-_, _^_, _≤_}
 use lib.ListN.{length, take}
 use Rattle.engine.specs.State.{Holds}
 use Rattle.framing.specs.Lines.{linesAfter, linesOf}
-use Rattle.framing.specs.Framing.{pendingOf}
+use Rattle.framing.specs.Framing.{pendingOf, placed, lineFits}
 use Rattle.session.specs.declared.Waiting.{Waiting}
 use Rattle.session.specs.declared.Session.{Session}
 use Rattle.session.specs.declared.Reading.{Reading}
 use Rattle.session.specs.Session.{Progress, begun, withLines, sessionOf}
 
+-- ---- the output buffer
+
+-- Its bytes, and how many of them wait.
+pub record Buffer : Type 0 where
+  pub bytes : List ℕ
+  pub len : ℕ
+
+abbrev pub buffered : List ℕ → Waiting → Buffer
+buffered out w = record { bytes = out; len = w .len }
+
+-- A line said: it stands with its line feed behind what waits. Where it has no room there, what waits is written, and the line stands in front.
+unfoldable pub saidInto : Buffer → List ℕ → Buffer
+saidInto b line =
+    cond (lineFits (b .bytes) (b .len) line)
+    (record { bytes = placed (b .bytes) (b .len) (line ++ (10 ∷ [])); len = b .len + (length line + 1) })
+    (record { bytes = placed (b .bytes) 0 (line ++ (10 ∷ [])); len = length line + 1 })
+
+-- Lines said one after the other.
+unfoldable pub allSaidInto : Buffer → List (List ℕ) → Buffer
+allSaidInto b [] = b
+allSaidInto b (l ∷ ls) = allSaidInto (saidInto b l) ls
+
 -- ---- where a session stands
 
--- What waits in the output buffer is the end of what was said. That the part before it was written is not said here: in the code only `flush`
--- empties the buffer, and it writes.
+-- What waits in the output buffer is the end of what was said. That the part before it was written is not said here: a buffer in which nothing
+-- waits fits any text. What is put into the buffer is an equation, `allSaidInto`; in the code only `flush` empties it, and `flush` writes.
 pub record Waits (said out : List ℕ) (w : Waiting) : Type 0 where
   pub written : List ℕ
   pub fits : w .len ≤ length out
@@ -49,7 +71,7 @@ EachSome [] = Unit {0}
 EachSome (d ∷ ds) = (1 ≤ length d) × EachSome ds
 
 -- After any number of turns. Free is only `reads`, what the read calls delivered one after the other; together they are the input. Nothing waits.
--- The program stops with the session of the whole input, unless a write failed.
+-- If the program stops and no write failed, state and history are those of the session of all that the reads delivered.
 pub record Ran (r : Reading) (history out : List ℕ) : Type 0 where
   pub reads : List (List ℕ)
   pub some : EachSome reads

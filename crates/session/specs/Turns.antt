@@ -11,8 +11,8 @@ use Rattle.engine.specs.State.{encode}
 use Rattle.framing.specs.Framing.{pendingOf}
 use Rattle.session.specs.declared.Waiting.{Waiting}
 use Rattle.session.specs.declared.Reading.{Reading}
-use Rattle.session.specs.Session.{sessionOf}
-use Rattle.session.specs.Program.{At, Follows, mostReads}
+use Rattle.session.specs.Session.{begun, withLines, saidTo, saidToAll, sessionOf}
+use Rattle.session.specs.Program.{Buffer, buffered, allSaidInto, At, Follows, mostReads}
 
 -- A write that failed is not forgotten.
 abbrev pub FailureKept : Waiting → Waiting → Type 0
@@ -32,12 +32,28 @@ firstReading =
 unfoldable pub delivered : ℤ → List ℕ → List ℕ
 delivered got chunk = take (clamped got (length chunk)) chunk
 
+-- After more bytes: into the buffer, which is `b` now, went the answers to the lines that they complete, and nothing else.
+pub record FollowsOn (input : List ℕ) (r : Reading) (h₀ out₀ : List ℕ) (f : Follows input r h₀ out₀) (part : List ℕ) (r' : Reading) (history out : List ℕ)
+    (b : Buffer) : Type 0 where
+  pub follows : Follows (input ++ part) r' history out
+  pub completed : List (List ℕ)
+  pub taken : follows .lines ≡ f .lines ++ completed
+  pub says : b ≡ allSaidInto (buffered out₀ (r .session .waiting)) (saidToAll (withLines begun (f .lines)) completed)
+
+-- At the end of the input: into the buffer went the answer to the line that was begun.
+abbrev pub LastSaid : (input : List ℕ) (r : Reading) (h₀ out₀ : List ℕ) → Follows input r h₀ out₀ → Buffer → Type 0
+LastSaid input r h₀ out₀ f b = b ≡ allSaidInto (buffered out₀ (r .session .waiting)) (saidTo (withLines begun (f .lines)) (f .begun-line))
+
 -- What is made of a read. Nothing delivered: the input has ended, and all its lines were taken, a last one without line feed too. Anything
 -- delivered: the input is longer by it, and one read fewer is left.
-pub record Received (input : List ℕ) (r : Reading) (chunk : List ℕ) (got : ℤ) (r' : Reading) (history out : List ℕ) : Type 0 where
-  pub ended : length (delivered got chunk) ≡ 0 → (r' .more ≡ false) × (r' .left ≡ r .left) × At (sessionOf input) (r' .session) history out
+pub record Received (input : List ℕ) (r : Reading) (h₀ out₀ : List ℕ) (f : Follows input r h₀ out₀) (chunk : List ℕ) (got : ℤ) (r' : Reading)
+    (history out : List ℕ) : Type 0 where
+  pub ended : length (delivered got chunk) ≡ 0
+      → (r' .more ≡ false) × (r' .left ≡ r .left) × At (sessionOf input) (r' .session) history out
+      × LastSaid input r h₀ out₀ f (buffered out (r' .session .waiting))
   pub goes : 1 ≤ length (delivered got chunk)
-      → (r' .more ≡ true) × (r' .left + 1 ≡ r .left) × Follows (input ++ delivered got chunk) r' history out
+      → (r' .more ≡ true) × (r' .left + 1 ≡ r .left)
+      × FollowsOn input r h₀ out₀ f (delivered got chunk) r' history out (buffered out (r' .session .waiting))
 
 -- What is made of a flush, which leaves `w`: the session goes on only if the write went through.
 pub record Flushed (r : Reading) (w : Waiting) (r' : Reading) : Type 0 where
@@ -47,11 +63,16 @@ pub record Flushed (r : Reading) (w : Waiting) (r' : Reading) : Type 0 where
   pub more : r' .more ≡ (r .more && w .sound)
   pub left : r' .left ≡ r .left
 
--- A turn: what was read is taken, and nothing waits after it. Free is only `got`, what the read call answered.
-pub record Turned (input : List ℕ) (r : Reading) (chunk : List ℕ) (r' : Reading) (history out : List ℕ) : Type 0 where
+-- A turn: what was read is taken, and nothing waits after it. Free is only `got`, what the read call answered. So many bytes of the buffer, `waited`,
+-- held what was said since the last write: they are what the turn has to write at its end.
+pub record Turned (input : List ℕ) (r : Reading) (h₀ out₀ : List ℕ) (f : Follows input r h₀ out₀) (chunk : List ℕ) (r' : Reading) (history out : List ℕ) : Type 0 where
   pub got : ℤ
+  pub waited : ℕ
   pub nothing : r' .session .waiting .len ≡ 0
   pub failed : r' .session .waiting .sound ≡ false → r' .more ≡ false
-  pub ended : length (delivered got chunk) ≡ 0 → (r' .more ≡ false) × (r' .left ≡ r .left) × At (sessionOf input) (r' .session) history out
+  pub ended : length (delivered got chunk) ≡ 0
+      → (r' .more ≡ false) × (r' .left ≡ r .left) × At (sessionOf input) (r' .session) history out
+      × LastSaid input r h₀ out₀ f (record { bytes = out; len = waited })
   pub goes : 1 ≤ length (delivered got chunk)
-      → (r' .session .waiting .sound ≡ true → r' .more ≡ true) × (r' .left + 1 ≡ r .left) × Follows (input ++ delivered got chunk) r' history out
+      → (r' .session .waiting .sound ≡ true → r' .more ≡ true) × (r' .left + 1 ≡ r .left)
+      × FollowsOn input r h₀ out₀ f (delivered got chunk) r' history out (record { bytes = out; len = waited })

@@ -8,9 +8,9 @@ ghost use lib.ListN.{length, replicate};
 ghost use Rattle.engine.specs.Engine.{Engine};
 ghost use Rattle.engine.specs.State.{Holds};
 ghost use Rattle.framing.specs.Framing.{pendingOf};
-ghost use Rattle.session.specs.Session.{asText, laterLines, Progress, withLine, sessionOf};
-ghost use Rattle.session.specs.Turns.{FailureKept, Received, Flushed, Turned, firstReading};
-ghost use Rattle.session.specs.Program.{Waits, At, Follows, Ran};
+ghost use Rattle.session.specs.Session.{asText, laterLines, Progress, withLine, saidTo, sessionOf};
+ghost use Rattle.session.specs.Turns.{FailureKept, FollowsOn, LastSaid, Received, Flushed, Turned, firstReading};
+ghost use Rattle.session.specs.Program.{buffered, saidInto, allSaidInto, Waits, At, Follows, Ran};
 use engine::State;
 use framing::Pending;
 use libc::STDIN_FILENO;
@@ -75,6 +75,8 @@ fn say(out: &mut [u8], waiting: Waiting, answer: &[u8]) -> Waiting
     ensures { λ r. ⌜ ((said : List ℕ) → length (now (answer .entry)) < length (now (out .entry)) → Waits said (now (out .entry)) waiting →
         Waits (said ++ asText (now (answer .entry) ∷ [])) (now (out .exit)) r) ⌝ }
     ensures { λ r. ⌜ FailureKept waiting r ⌝ }
+    ensures { λ r. ⌜ (length (now (answer .entry)) < length (now (out .entry)) →
+        buffered (now (out .exit)) r ≡ saidInto (buffered (now (out .entry)) waiting) (now (answer .entry))) ⌝ }
 {
     let at = waiting.len;
     let len = framing::put_line(out, at, answer);
@@ -96,6 +98,8 @@ fn list(state: State, out: &mut [u8], waiting: Waiting) -> Waiting
     ensures { λ r. ⌜ ((e : Engine) (h said : List ℕ) → Holds e state h → 64 < length (now (out .entry)) → Waits said (now (out .entry)) waiting →
         Waits (said ++ asText (laterLines e)) (now (out .exit)) r) ⌝ }
     ensures { λ r. ⌜ FailureKept waiting r ⌝ }
+    ensures { λ r. ⌜ ((e : Engine) (h : List ℕ) → Holds e state h → 64 < length (now (out .entry)) →
+        buffered (now (out .exit)) r ≡ allSaidInto (buffered (now (out .entry)) waiting) (laterLines e)) ⌝ }
 {
     let mut answer = [0u8; 64];
     let mut after = waiting;
@@ -117,6 +121,8 @@ fn take_line(session: Session, history: &mut [u32], out: &mut [u8], line: &[u8])
     ensures { λ r. ⌜ ((p : Progress) → At p session (now (history .entry)) (now (out .entry)) →
         At (withLine p (now (line .entry))) r (now (history .exit)) (now (out .exit))) ⌝ }
     ensures { λ r. ⌜ FailureKept (session .waiting) (r .waiting) ⌝ }
+    ensures { λ r. ⌜ ((p : Progress) → At p session (now (history .entry)) (now (out .entry)) →
+        buffered (now (out .exit)) (r .waiting) ≡ allSaidInto (buffered (now (out .entry)) (session .waiting)) (saidTo p (now (line .entry)))) ⌝ }
 {
     let mut answer = [0u8; 64];
     let reply = engine::line(session.state, history, line, &mut answer);
@@ -143,6 +149,8 @@ fn take_pending(session: Session, history: &mut [u32], out: &mut [u8], pending: 
     ensures { λ r. ⌜ ((p : Progress) (line : List ℕ) → At p session (now (history .entry)) (now (out .entry)) → pending ≡ pendingOf line →
         At (withLine p line) r (now (history .exit)) (now (out .exit))) ⌝ }
     ensures { λ r. ⌜ FailureKept (session .waiting) (r .waiting) ⌝ }
+    ensures { λ r. ⌜ ((p : Progress) (line : List ℕ) → At p session (now (history .entry)) (now (out .entry)) → pending ≡ pendingOf line →
+        buffered (now (out .exit)) (r .waiting) ≡ allSaidInto (buffered (now (out .entry)) (session .waiting)) (saidTo p line)) ⌝ }
 {
     let bytes = pending.bytes;
     let len = pending.len;
@@ -152,8 +160,9 @@ fn take_pending(session: Session, history: &mut [u32], out: &mut [u8], pending: 
 // The lines that a chunk of the input completes.
 fn take_chunk(reading: Reading, history: &mut [u32], out: &mut [u8], chunk: &[u8]) -> Reading
     requires { ⌜ 1 ≤ reading .left ⌝ }
-    ensures { λ r. ⌜ ((input : List ℕ) → Follows input reading (now (history .entry)) (now (out .entry)) →
-        Follows (input ++ now (chunk .entry)) r (now (history .exit)) (now (out .exit))) ⌝ }
+    ensures { λ r. ⌜ ((input : List ℕ) (f : Follows input reading (now (history .entry)) (now (out .entry))) →
+        FollowsOn input reading (now (history .entry)) (now (out .entry)) f (now (chunk .entry)) r (now (history .exit)) (now (out .exit))
+        (buffered (now (out .exit)) (r .session .waiting))) ⌝ }
     ensures { λ r. ⌜ r .more ≡ true ⌝ }
     ensures { λ r. ⌜ r .left + 1 ≡ reading .left ⌝ }
     ensures { λ r. ⌜ FailureKept (reading .session .waiting) (r .session .waiting) ⌝ }
@@ -184,6 +193,8 @@ fn take_last(reading: Reading, history: &mut [u32], out: &mut [u8]) -> Session
     ensures { λ r. ⌜ ((input : List ℕ) → Follows input reading (now (history .entry)) (now (out .entry)) →
         At (sessionOf input) r (now (history .exit)) (now (out .exit))) ⌝ }
     ensures { λ r. ⌜ FailureKept (reading .session .waiting) (r .waiting) ⌝ }
+    ensures { λ r. ⌜ ((input : List ℕ) (f : Follows input reading (now (history .entry)) (now (out .entry))) →
+        LastSaid input reading (now (history .entry)) (now (out .entry)) f (buffered (now (out .exit)) (r .waiting))) ⌝ }
 {
     let pending = reading.pending;
     take_pending(reading.session, history, out, pending)
@@ -198,8 +209,8 @@ fn take_read(
     got: isize,
 ) -> Reading
     requires { ⌜ 1 ≤ reading .left ⌝ }
-    ensures { λ r. ⌜ ((input : List ℕ) → Follows input reading (now (history .entry)) (now (out .entry)) →
-        Received input reading (now (chunk .entry)) got r (now (history .exit)) (now (out .exit))) ⌝ }
+    ensures { λ r. ⌜ ((input : List ℕ) (f : Follows input reading (now (history .entry)) (now (out .entry))) →
+        Received input reading (now (history .entry)) (now (out .entry)) f (now (chunk .entry)) got r (now (history .exit)) (now (out .exit))) ⌝ }
     ensures { λ r. ⌜ FailureKept (reading .session .waiting) (r .session .waiting) ⌝ }
 {
     let count = io::count(got, chunk);
@@ -237,8 +248,8 @@ fn after_flush(reading: Reading, flushed: Waiting) -> Reading
 // Reads once, takes what was read, and writes what is answered.
 fn turn(reading: Reading, history: &mut [u32], out: &mut [u8], chunk: &mut [u8]) -> Reading
     requires { ⌜ 1 ≤ reading .left ⌝ }
-    ensures { λ r. ⌜ ((input : List ℕ) → Follows input reading (now (history .entry)) (now (out .entry)) →
-        Turned input reading (now (chunk .exit)) r (now (history .exit)) (now (out .exit))) ⌝ }
+    ensures { λ r. ⌜ ((input : List ℕ) (f : Follows input reading (now (history .entry)) (now (out .entry))) →
+        Turned input reading (now (history .entry)) (now (out .entry)) f (now (chunk .exit)) r (now (history .exit)) (now (out .exit))) ⌝ }
     ensures { λ r. ⌜ FailureKept (reading .session .waiting) (r .session .waiting) ⌝ }
 {
     let got = libc::read(STDIN_FILENO, chunk);

@@ -4,21 +4,23 @@ use native.Mathlib.Omega.{arith}
 use mathlib.Core.Path.{_≡_, refl}
 use lib.ListN.{length}
 use Rattle.session.specs.Turns.{FailureKept}
+use Rattle.session.proofs.WhatWaits.{nothing-into}
 use Rattle.session.proofs.LaterLines.{later-few}
-use Rattle.session.proofs.ListingSaid.{Listed, none-listed, all-listed, past-listed, one-listed}
+use Rattle.session.proofs.ListingSaid.{Listed, ListedInto, none-listed, all-listed, past-listed, one-listed, all-into, one-into}
 use borrow.Author.Needs.{needs}
 use Rattle.session.proofs.list.Statement.{statement}
 use Rattle.session.proofs.list.Tie as tie
 
 abbrev Inv-loop : tie.InvT-loop
 Inv-loop state out₀ answer₀ after₀ number₀ out answer after number =
-    (length out ≡ length out₀) × (length answer ≡ 64) × (1 ≤ number) × Listed state out₀ after₀ (number - 1) out after × FailureKept after₀ after
+    (length out ≡ length out₀) × (length answer ≡ 64) × (1 ≤ number) × Listed state out₀ after₀ (number - 1) out after
+    × ListedInto state out₀ after₀ (number - 1) out after × FailureKept after₀ after
 
 abbrev μ-loop : tie.MeasureT-loop
 μ-loop state out₀ answer₀ after₀ number₀ out answer after number = 4865 - number
 
 loop-holds : tie.Need-loop-holds Inv-loop μ-loop
-loop-holds c = (refl, search needs, omega arith, none-listed _ _ _, λ failed. failed)
+loop-holds c = (refl, search needs, omega arith, none-listed _ _ _, λ e h held big. nothing-into _, λ failed. failed)
 
 slice-aggregate-fetch : tie.Need-slice-aggregate-fetch Inv-loop μ-loop
 slice-aggregate-fetch c = search needs
@@ -36,7 +38,12 @@ returns c =
       λ e h said held big w.
           all-listed _ _ _ (loop .number - 1) (loop .inv .3) e h said held big w
           (past-listed _ (loop .number - 1) (loop .number) number (c .before .before .fetch .ensures) (loop .inv .1) (c .if1 .taken) e h held),
-      loop .inv .4,
+      (
+        loop .inv .5,
+        λ e h held big.
+            all-into _ _ _ (loop .number - 1) (loop .inv .3) (loop .inv .4) e h held big
+            (past-listed _ (loop .number - 1) (loop .number) number (c .before .before .fetch .ensures) (loop .inv .1) (c .if1 .taken) e h held),
+      ),
     )
 
 slice-aggregate-front : tie.Need-slice-aggregate-front Inv-loop μ-loop
@@ -63,11 +70,16 @@ loop-again c =
       search needs,
       omega arith,
       rw next
-          (one-listed _ _ _ (loop .number - 1) (loop .number) (loop .inv .3) number
+          (one-listed _ _ _ (loop .number - 1) (loop .number) (loop .inv .3) (loop .inv .4) number
           (c .before .before .before .before .before .before .before .before .fetch .ensures) (loop .inv .1) (search needs) (loop .inv .0)
-          (c .before .before .before .front .ensures) (c .before .before .say .ensures .0)
+          (c .before .before .before .front .ensures) (c .before .before .say .ensures .0) (c .before .before .say .ensures .1 .1)
           (c .before .before .before .before .before .before .if1 .left)),
-      λ failed. c .before .before .say .ensures .1 (loop .inv .4 failed),
+      rw next
+          (one-into _ _ _ (loop .number - 1) (loop .number) (loop .inv .3) (loop .inv .4) number
+          (c .before .before .before .before .before .before .before .before .fetch .ensures) (loop .inv .1) (search needs) (loop .inv .0)
+          (c .before .before .before .front .ensures) (c .before .before .say .ensures .0) (c .before .before .say .ensures .1 .1)
+          (c .before .before .before .before .before .before .if1 .left)),
+      λ failed. c .before .before .say .ensures .1 .0 (loop .inv .5 failed),
     )
 
 same-length-2 : tie.Need-same-length-2 Inv-loop μ-loop
@@ -78,7 +90,10 @@ returns-2 c =
     let loop = c .before .loop in (
       λ e h said held big w.
           all-listed _ _ _ (loop .number - 1) (loop .inv .3) e h said held big w (omega (arith, later-few e, c .loop-test .left)),
-      loop .inv .4,
+      (
+        loop .inv .5,
+        λ e h held big. all-into _ _ _ (loop .number - 1) (loop .inv .3) (loop .inv .4) e h held big (omega (arith, later-few e, c .loop-test .left)),
+      ),
     )
 
 pub list-spec : {M : Type 1} → statement M

@@ -1,5 +1,5 @@
 -- The line waits behind what waited, or alone, once that is written.
-use Rattle.session.proofs.WhatWaits.{line-waits, first-waits}
+use Rattle.session.proofs.WhatWaits.{line-waits, first-waits, line-into, first-into}
 use borrow.Author.Needs.{needs}
 use Rattle.session.proofs.say.Statement.{statement}
 use Rattle.session.proofs.say.Tie as tie
@@ -11,7 +11,11 @@ same-length : tie.Need-same-length
 same-length c = search needs
 
 returns : tie.Need-returns
-returns c = (λ said less w. line-waits w _ (c .before .before .before .put-line .ensures) (c .if1 .taken), λ failed. failed)
+returns c =
+    let put = c .before .before .before .put-line in (
+      λ said less w. line-waits w _ (put .ensures) (c .if1 .taken),
+      (λ failed. failed, λ less. line-into (put .ensures) (c .if1 .taken)),
+    )
 
 flush-requires : tie.Need-flush-requires
 flush-requires c κs = search needs
@@ -24,9 +28,12 @@ same-length-2 c = search needs
 
 returns-2 : tie.Need-returns-2
 returns-2 c =
-    let flushed = c .before .before .before .before .flush in (
-      λ said less w. first-waits w (c .before .before .before .before .before .before .before .before .before .put-line .ensures) (c .before .before .before .before .before .before .if1 .left) (c .before .before .put-line2 .ensures) (search needs) less,
-      λ failed. let stays = flushed .ensures .1 failed in search needs,
+    let put = c .before .before .before .before .before .before .before .before .before .put-line in
+    let again = c .before .before .put-line2 in
+    let flushed = c .before .before .before .before .flush in
+    let stays = c .before .before .before .before .before .before .if1 .left in (
+      λ said less w. first-waits w (put .ensures) stays (again .ensures) (search needs) less,
+      (λ failed. let kept = flushed .ensures .1 failed in search needs, λ less. first-into (put .ensures) stays (again .ensures) (search needs) less),
     )
 
 pub say-spec : {M : Type 1} → statement M

@@ -7,7 +7,7 @@ use lib.ListN.{length}
 use borrow.Author.Tests.{not-true, not-false}
 use Rattle.framing.proofs.Scans.{scan-goes-on}
 use Rattle.session.specs.Turns.{FailureKept}
-use Rattle.session.proofs.ChunkTaken.{Amid, chunk-begun, chunk-ended, line-ended}
+use Rattle.session.proofs.ChunkTaken.{Amid, AmidOn, chunk-begun, on-begun, on-line, chunk-followed}
 use borrow.Author.Needs.{needs}
 use Rattle.session.proofs.take_chunk.Statement.{statement}
 use Rattle.session.proofs.take_chunk.Tie as tie
@@ -15,7 +15,8 @@ use Rattle.session.proofs.take_chunk.Tie as tie
 abbrev Inv-loop : tie.InvT-loop
 Inv-loop history₀ out₀ chunk left session₀ pending₀ from₀ history out session pending from =
     (length history ≡ length history₀) × (length out ≡ length out₀)
-    × ((input : List ℕ) → Amid input chunk from₀ session₀ pending₀ history₀ out₀ → Amid input chunk from session pending history out)
+    × ((input : List ℕ) (a : Amid input chunk from₀ session₀ pending₀ history₀ out₀) →
+    AmidOn input chunk from₀ session₀ pending₀ history₀ out₀ a from session pending history out)
     × FailureKept (session₀ .waiting) (session .waiting)
 
 abbrev μ-loop : tie.MeasureT-loop
@@ -25,7 +26,7 @@ sub-left : tie.Need-sub-left Inv-loop μ-loop
 sub-left c = search needs
 
 loop-holds : tie.Need-loop-holds Inv-loop μ-loop
-loop-holds c = (refl, refl, λ input a. a, λ failed. failed)
+loop-holds c = (refl, refl, λ input a. on-begun _ _ _ _ _ _ _ a, λ failed. failed)
 
 scan-requires : tie.Need-scan-requires Inv-loop μ-loop
 scan-requires c κs = search needs
@@ -41,8 +42,8 @@ returns c =
     let loop = c .before .before .before .before .loop in
     let start = c .before .before .before .before .before .before .before .before .before .before .before in (
       λ input f.
-          chunk-ended input (start .args .chunk .now) (loop .from) (loop .session) (loop .pending) (loop .history) (loop .out) _ (c .before .before .before .scan .ensures)
-          (loop .inv .2 input (chunk-begun input (start .args .chunk .now) (start .args .reading) _ _ f)) (not-true _ (c .if1 .taken)),
+          chunk-followed input (start .args .chunk .now) (start .args .reading) _ _ f (loop .from) (loop .session) (loop .pending) (loop .history) (loop .out) _
+          (c .before .before .before .scan .ensures) (loop .inv .2 input (chunk-begun input (start .args .chunk .now) (start .args .reading) _ _ f)) (not-true _ (c .if1 .taken)),
       (refl, (omega (arith, start .pre), loop .inv .3)),
     )
 
@@ -67,9 +68,9 @@ loop-again c =
       search needs,
       search needs,
       λ input a.
-          line-ended input (c .before .before .before .before .before .before .before .before .before .before .before .before .before .before .before .before .before .before .before .args .chunk .now) (loop .from) (loop .session) (loop .pending) (loop .history) (loop .out) (scan .result)
-          (scan .ensures) (loop .inv .2 input a) (not-false _ (c .before .before .before .before .before .before .before .before .if1 .left)) (c .empty .ensures) (taken .ensures .0),
-      λ failed. taken .ensures .1 (loop .inv .3 failed),
+          on-line _ _ _ _ _ _ _ a (loop .from) (loop .session) (loop .pending) (loop .history) (loop .out) (scan .result)
+          (scan .ensures) (loop .inv .2 input a) (not-false _ (c .before .before .before .before .before .before .before .before .if1 .left)) (c .empty .ensures) (taken .ensures .0) (taken .ensures .1 .1),
+      λ failed. taken .ensures .1 .0 (loop .inv .3 failed),
     )
 
 pub take-chunk-spec : {M : Type 1} → statement M

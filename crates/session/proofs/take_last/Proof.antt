@@ -15,7 +15,11 @@ same-length-2 : tie.Need-same-length-2
 same-length-2 c = search needs
 
 returns : tie.Need-returns
-returns c = let taken = c .before .before .before .before .take-pending in (λ input f. input-ended input _ _ _ f (taken .ensures .0) refl, taken .ensures .1)
+returns c =
+    let taken = c .before .before .before .before .take-pending in (
+      λ input f. input-ended input _ _ _ f (taken .ensures .0) refl,
+      (taken .ensures .1 .0, λ input f. taken .ensures .1 .1 _ _ (f .progress) (f .kept)),
+    )
 
 pub take-last-spec : {M : Type 1} → statement M
 take-last-spec = tie.close (tie.spec take-pending-requires same-length same-length-2 returns)

@@ -1,5 +1,5 @@
 -- The engine takes the line; its answer is said, and the lines of a listing after it.
-use Rattle.session.proofs.LineTaken.{line-skipped, line-said, line-listed}
+use Rattle.session.proofs.LineTaken.{line-skipped, line-said, line-listed, skipped-into, said-into, listed-into}
 use borrow.Author.Needs.{needs}
 use Rattle.session.proofs.take_line.Statement.{statement}
 use Rattle.session.proofs.take_line.Tie as tie
@@ -16,7 +16,10 @@ same-length c = search needs
 returns : tie.Need-returns
 returns c = (
   λ p at. line-skipped p _ _ _ _ at (c .before .before .before .before .before .before .line .ensures) (search needs) (search needs) (c .if1 .taken),
-  λ failed. failed,
+  (
+    λ failed. failed,
+    λ p at. skipped-into p _ _ _ _ at (c .before .before .before .before .before .before .line .ensures) (search needs) (search needs) (c .if1 .taken),
+  ),
 )
 
 slice-aggregate-front : tie.Need-slice-aggregate-front
@@ -44,8 +47,13 @@ returns-2 c =
     let listed = c .before .before .list in (
       λ p at.
           line-listed p _ _ _ _ at (line .ensures) (search needs) (search needs) (c .before .before .before .before .before .before .before .before .before .before .before .if1 .left) (said .ensures .0)
-          (search needs) (search needs) (search needs) (listed .ensures .0),
-      λ failed. listed .ensures .1 (said .ensures .1 failed),
+          (said .ensures .1 .1) (search needs) (search needs) (search needs) (listed .ensures .0),
+      (
+        λ failed. listed .ensures .1 .0 (said .ensures .1 .0 failed),
+        λ p at.
+            listed-into p _ _ _ _ at (line .ensures) (search needs) (search needs) (c .before .before .before .before .before .before .before .before .before .before .before .if1 .left) (said .ensures .0)
+            (said .ensures .1 .1) (search needs) (search needs) (listed .ensures .0) (listed .ensures .1 .1),
+      ),
     )
 
 same-length-4 : tie.Need-same-length-4
@@ -59,9 +67,13 @@ returns-3 c =
     let line = c .before .before .before .before .before .before .before .before .before .before .before .before .before .line in
     let said = c .before .before .before .say in (
       λ p at.
-          line-said p _ _ _ _ at (line .ensures) (search needs) (search needs) (c .before .before .before .before .before .before .before .if1 .left) (said .ensures .0) (search needs) (c .if2 .left)
+          line-said p _ _ _ _ at (line .ensures) (search needs) (search needs) (c .before .before .before .before .before .before .before .if1 .left) (said .ensures .0) (said .ensures .1 .1) (search needs) (c .if2 .left)
           (search needs),
-      said .ensures .1,
+      (
+        said .ensures .1 .0,
+        λ p at.
+            said-into p _ _ _ _ at (line .ensures) (search needs) (search needs) (c .before .before .before .before .before .before .before .if1 .left) (said .ensures .0) (said .ensures .1 .1) (search needs) (c .if2 .left),
+      ),
     )
 
 pub take-line-spec : {M : Type 1} → statement M

@@ -1,7 +1,7 @@
 -- A line of which 1,025 bytes are kept is taken as the whole line is.
 use mathlib.Core.Path.{ap, _∙_}
-use Rattle.session.specs.Session.{withLine}
-use Rattle.session.proofs.KeptLines.{kept-taken}
+use Rattle.session.specs.Session.{withLine, saidTo}
+use Rattle.session.proofs.KeptLines.{kept-taken, kept-said}
 use borrow.Author.Needs.{needs}
 use Rattle.session.proofs.take_pending.Statement.{statement}
 use Rattle.session.proofs.take_pending.Tie as tie
@@ -28,7 +28,12 @@ returns c =
       λ p line at is.
           let same = ap (withLine p) (front .ensures) ∙ kept-taken p line _ is in
           rw same at (taken .ensures .0 p at),
-      taken .ensures .1,
+      (
+        taken .ensures .1 .0,
+        λ p line at is.
+            let same = ap (saidTo p) (front .ensures) ∙ kept-said p line _ is in
+            rw same at (taken .ensures .1 .1 p at),
+      ),
     )
 
 pub take-pending-spec : {M : Type 1} → statement M

@@ -28,8 +28,8 @@ returns c =
     let count = c .before .before .before .before .before .before .before .before .before .count in
     let is = count .ensures .1 ∙ ap (λ (z : ℤ). clamped z (length (start .args .chunk .now))) (toZ-ofZ (start .fits .got)) in
     let last = c .before .before .before .before .take-last in (
-      λ input f. read-ended (start .args .chunk .now) (start .args .got) (count .ensures .0) is (omega (arith, c .before .before .before .before .before .before .before .before .if1 .taken)) refl refl (last .ensures .0 input f),
-      last .ensures .1,
+      λ input f. read-ended (start .args .chunk .now) (start .args .got) (count .ensures .0) is (omega (arith, c .before .before .before .before .before .before .before .before .if1 .taken)) refl refl (last .ensures .0 input f) (last .ensures .1 .1 input f),
+      last .ensures .1 .0,
     )
 
 front-requires : tie.Need-front-requires
