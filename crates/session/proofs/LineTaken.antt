@@ -16,8 +16,9 @@ use Rattle.engine.proofs.Outcomes.{bytes-given}
 use Rattle.engine.proofs.TurnTaken.{listed-kept}
 use Rattle.session.specs.declared.Waiting.{Waiting}
 use Rattle.session.specs.declared.Session.{Session}
-use Rattle.session.specs.Session.{asText, laterLines, Progress, answerTo, withResponse, withLine, saidTo}
-use Rattle.session.specs.Program.{buffered, allSaidInto, Waits, At}
+use Rattle.session.specs.Session.{asText, laterLines, Progress, answerTo, withResponse, withLine}
+use Rattle.session.specs.Saying.{saidTo, buffered, allSaidInto}
+use Rattle.session.specs.Program.{Waits, At}
 use Rattle.session.proofs.WhatWaits.{asText-append, into-append}
 use Rattle.session.proofs.AnswerBytes.{unanswered, has-bytes}
 use Rattle.session.proofs.ListingSaid.{SaidThere, PutThere}

@@ -16,7 +16,8 @@ use Rattle.engine.specs.Calls.{fetchedBytes, FetchAnswered}
 use Rattle.engine.proofs.Outcomes.{bytes-fetched}
 use Rattle.session.specs.declared.Waiting.{Waiting}
 use Rattle.session.specs.Session.{asText, laterLines}
-use Rattle.session.specs.Program.{buffered, saidInto, allSaidInto, Waits}
+use Rattle.session.specs.Program.{Waits}
+use Rattle.session.specs.Saying.{buffered, saidInto, allSaidInto}
 use Rattle.session.proofs.WhatWaits.{asText-append, into-append}
 use Rattle.session.proofs.LaterLines.{line-fetched, later-some}
 

@@ -16,7 +16,8 @@ use Rattle.session.specs.declared.Session.{Session}
 use Rattle.session.specs.declared.Reading.{Reading}
 use Rattle.session.specs.Session.{Progress, begun, withLines, sessionOf}
 use Rattle.session.specs.Turns.{delivered, FollowsOn, LastSaid, Received, Flushed, Turned, firstReading}
-use Rattle.session.specs.Program.{buffered, At, Follows, EachSome, Ran}
+use Rattle.session.specs.Program.{At, Follows, EachSome, Ran}
+use Rattle.session.specs.Saying.{buffered}
 use Rattle.session.proofs.WhatWaits.{waits-nothing}
 
 -- ---- what was read

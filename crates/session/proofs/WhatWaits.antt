@@ -11,7 +11,8 @@ use Rattle.framing.specs.Framing.{fitting, placed, lineFits, LinePut}
 use Rattle.framing.proofs.Places.{fits-whole}
 use Rattle.session.specs.declared.Waiting.{Waiting}
 use Rattle.session.specs.Session.{asText}
-use Rattle.session.specs.Program.{Buffer, saidInto, allSaidInto, Waits}
+use Rattle.session.specs.Program.{Waits}
+use Rattle.session.specs.Saying.{Buffer, saidInto, allSaidInto}
 
 pub asText-append : (a b : List (List ℕ)) → asText (a ++ b) ≡ asText a ++ asText b
 unfolding asText

@@ -1,39 +1,17 @@
 -- What the program holds of a session, and where it ends. The contracts of the system's `read` and `write` do not tell which bytes they move. So
 -- that they move those that they report, and that the program makes these calls, is read off the code and tested.
-use mathlib.Core.Bool.{true, false, cond}
+use mathlib.Core.Bool.{true, false}
 use mathlib.Core.List.{List, [], _∷_, _++_, flatten}
 use mathlib.Core.Path.{_≡_}
 use Prim.Native.Nat.{ℕ, _+_, _-_, _^_, _≤_}
 use lib.ListN.{length, take}
 use Rattle.engine.specs.State.{Holds}
 use Rattle.framing.specs.Lines.{linesAfter, linesOf}
-use Rattle.framing.specs.Framing.{pendingOf, placed, lineFits}
+use Rattle.framing.specs.Framing.{pendingOf}
 use Rattle.session.specs.declared.Waiting.{Waiting}
 use Rattle.session.specs.declared.Session.{Session}
 use Rattle.session.specs.declared.Reading.{Reading}
 use Rattle.session.specs.Session.{Progress, begun, withLines, sessionOf}
-
--- ---- the output buffer
-
--- Its bytes, and how many of them wait.
-pub record Buffer : Type 0 where
-  pub bytes : List ℕ
-  pub len : ℕ
-
-abbrev pub buffered : List ℕ → Waiting → Buffer
-buffered out w = record { bytes = out; len = w .len }
-
--- A line said: it stands with its line feed behind what waits. Where it has no room there, what waits is written, and the line stands in front.
-unfoldable pub saidInto : Buffer → List ℕ → Buffer
-saidInto b line =
-    cond (lineFits (b .bytes) (b .len) line)
-    (record { bytes = placed (b .bytes) (b .len) (line ++ (10 ∷ [])); len = b .len + (length line + 1) })
-    (record { bytes = placed (b .bytes) 0 (line ++ (10 ∷ [])); len = length line + 1 })
-
--- Lines said one after the other.
-unfoldable pub allSaidInto : Buffer → List (List ℕ) → Buffer
-allSaidInto b [] = b
-allSaidInto b (l ∷ ls) = allSaidInto (saidInto b l) ls
 
 -- ---- where a session stands
 

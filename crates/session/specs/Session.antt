@@ -46,14 +46,6 @@ unfoldable pub withLines : Progress → List (List ℕ) → Progress
 withLines p [] = p
 withLines p (l ∷ ls) = withLines (withLine p l) ls
 
--- The lines that are said to a line, and to lines one after the other.
-unfoldable pub saidTo : Progress → List ℕ → List (List ℕ)
-saidTo p line = answerTo line (response (p .engine) (p .history) line 64)
-
-unfoldable pub saidToAll : Progress → List (List ℕ) → List (List ℕ)
-saidToAll p [] = []
-saidToAll p (l ∷ ls) = saidTo p l ++ saidToAll (withLine p l) ls
-
 -- The session of an input.
 unfoldable pub sessionOf : List ℕ → Progress
 sessionOf input = withLines begun (linesOf input)

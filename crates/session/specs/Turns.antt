@@ -11,8 +11,9 @@ use Rattle.engine.specs.State.{encode}
 use Rattle.framing.specs.Framing.{pendingOf}
 use Rattle.session.specs.declared.Waiting.{Waiting}
 use Rattle.session.specs.declared.Reading.{Reading}
-use Rattle.session.specs.Session.{begun, withLines, saidTo, saidToAll, sessionOf}
-use Rattle.session.specs.Program.{Buffer, buffered, allSaidInto, At, Follows, mostReads}
+use Rattle.session.specs.Session.{begun, withLines, sessionOf}
+use Rattle.session.specs.Saying.{saidTo, saidToAll, Buffer, buffered, allSaidInto}
+use Rattle.session.specs.Program.{At, Follows, mostReads}
 
 -- A write that failed is not forgotten.
 abbrev pub FailureKept : Waiting → Waiting → Type 0
