@@ -14,7 +14,6 @@ use Rattle.circuit.specs.Sum.{areGates}
 use Rattle.circuit.specs.History.{codeOf}
 use Rattle.lines.specs.Typed.{row}
 use Rattle.lines.specs.Spelling.{Reading, gatesIn}
-use Rattle.lines.specs.Readings.{readingOf}
 use Rattle.answers.specs.declared.Answer.{Answer}
 use Rattle.engine.specs.declared.State.{State}
 use Rattle.engine.specs.declared.Reply.{Reply}
@@ -24,7 +23,7 @@ use Rattle.refusals.specs.Refusals.{places}
 use Rattle.engine.specs.Response.{circuitOf, gatesOf}
 use Rattle.engine.specs.State.{encode, Holds}
 use Rattle.engine.specs.Calls.{refusalNumber, stored, answering, tooShort, skipped, Response, response, Given}
-use Rattle.engine.proofs.Views.{Building, one, many, View, refuses, creates, adds, takesBack, starts, opensAmplitude, opensReadout, worksOn, finishes, drops, lists, view}
+use Rattle.engine.proofs.Views.{one, many, View, refuses, creates, adds, takesBack, starts, opensAmplitude, opensReadout, worksOn, finishes, drops, lists, view}
 use Rattle.engine.proofs.GateHistory.{stored-none, length-stored, codes-front}
 use Rattle.engine.proofs.TurnRefused.{total-number}
 use Rattle.engine.proofs.HeldGates.{gates-added, gates-left}

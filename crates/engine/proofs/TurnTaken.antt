@@ -7,27 +7,24 @@ use Prim.Native.Nat.{ℕ, _+_, _≤_}
 use native.Mathlib.Omega.{arith}
 use lib.ListN.{length, take}
 use borrow.Author.Tests.{ltb-false}
-use Rattle.gf2.specs.Strings.{BitString}
 use Rattle.circuit.specs.declared.Colour.{Colour}
 use Rattle.circuit.specs.declared.Spot.{Spot}
 use Rattle.circuit.specs.declared.Gate.{Gate}
 use Rattle.circuit.specs.declared.Gate.the-variants as Gate
-use Rattle.circuit.specs.Sum.{areGates}
 use Rattle.circuit.specs.History.{codeOf}
 use Rattle.text.specs.declared.Bits.{Bits}
-use Rattle.text.specs.Spelling.{numberOfBits}
-use Rattle.text.specs.Reading.{capped, heldBits}
+use Rattle.text.specs.Reading.{capped}
 use Rattle.text.proofs.BitNumbers.{held-exactly}
 use Rattle.lines.specs.declared.Class.the-variants as Class
 use Rattle.lines.specs.declared.Form.{Form}
 use Rattle.lines.specs.declared.Form.the-variants as Form
 use Rattle.lines.specs.Typed.{amp, part, Typed, circuit, gate, layer, undo, start, opens, step, drop, terms, stringsOf, row}
-use Rattle.lines.specs.Spelling.{typed, anyColourTwice}
+use Rattle.lines.specs.Spelling.{typed}
 use Rattle.lines.specs.Readings.{readingOf}
 use Rattle.lines.specs.Held.{heldGate, held, heldReading}
 use Rattle.lines.specs.Gates.{layerGates}
 use Rattle.lines.proofs.Readings.{form-read}
-use Rattle.lines.proofs.HeldForms.{heldSpot, HeldAs, circuits, cczs, czs, cnots, layers, undos, starts, amps, parts, steps, drops, lists, held-as}
+use Rattle.lines.proofs.HeldForms.{HeldAs, circuits, cczs, czs, cnots, layers, undos, starts, amps, parts, steps, drops, lists, held-as}
 use Rattle.lines.proofs.LayerLine.{handed-on}
 use Rattle.answers.specs.declared.Answer.{Answer}
 use Rattle.refusals.specs.Refusals.{classNumber, isClass, allInRange, places, undoesMore, refusalBy}
@@ -38,7 +35,7 @@ use Rattle.engine.specs.Soundness.{Sound, SoundCircuit}
 use Rattle.engine.specs.Response.{newCircuit, withGates, withoutLast, withNewStart, asNumbers, opening, besideUnread, stepOf, withoutSum, termsOf, accepted, hasCircuit, circuitOf, openedOf, isRunning, gatesOf, refusalOf}
 use Rattle.engine.specs.State.{encodeLoaded, encode}
 use Rattle.engine.specs.Calls.{stored}
-use Rattle.engine.specs.Turns.{Done, Does, Built, Builds, Free, Taken}
+use Rattle.engine.specs.Turns.{Done, Does, Builds, Free, Taken}
 use Rattle.engine.proofs.Passing.{Passes, passes}
 use Rattle.engine.proofs.Views.{Building, one, many, two-long, three-long}
 use Rattle.engine.proofs.HeldGates.{gates-by-tests}

@@ -1,5 +1,5 @@
 -- What a line can do to an engine: one case for each outcome, with what is known there.
-use mathlib.Core.Path.{_≡_, refl, sym}
+use mathlib.Core.Path.{_≡_, refl}
 use mathlib.Core.Bool.{Bool, true, false, not, cond, _&&_, true≢false}
 use mathlib.Core.List.{List, [], _∷_, _++_}
 use Prim.Native.Nat.{ℕ, zero, suc, _+_, _-_, _^_, _≤_, _<_}
@@ -21,7 +21,7 @@ use Rattle.lines.proofs.Readings.{form-read, refused-among}
 use Rattle.answers.specs.declared.Answer.{Answer}
 use Rattle.answers.specs.declared.Answer.the-variants as Answer
 use Rattle.refusals.specs.Refusals.{classNumber, isClass, works, within, places, anyNotLong, refusalBy}
-use Rattle.engine.specs.Engine.{Circuit, amplitude, readout, OpenSum, Opened, closed, running, Loaded, absent, present}
+use Rattle.engine.specs.Engine.{Circuit, amplitude, readout, OpenSum, closed, running, Loaded, absent, present}
 use Rattle.engine.specs.Response.{Turn, noStrings, newCircuit, withGates, withoutLast, withNewStart, asNumbers, outputWith, opening, besideUnread, total, stepped, stepOf, withoutSum, termsOf, accepted, hasCircuit, circuitOf, openedOf, isRunning, gatesOf, refusalOf, turnBy, turnOf}
 use Rattle.engine.proofs.Passing.{or-none, Passes, passes}
 use Rattle.engine.proofs.HeldGates.{gates-by-tests}

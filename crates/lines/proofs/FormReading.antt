@@ -1,7 +1,7 @@
 -- What is spelled is read as what is held of it, or as refusal 5 for one colour twice in a `cz`; what is read otherwise than as refusal 4 was
 -- spelled.
 use Prim.Native.Nat.{ℕ}
-use mathlib.Core.Path.{_≡_, refl, ap, sym, _∙_}
+use mathlib.Core.Path.{_≡_, refl, ap, _∙_}
 use mathlib.Core.Logic.{_⊎_, inl, inr}
 use mathlib.Core.Bool.{true, false, cond, or-false}
 use mathlib.Core.List.{List, _∷_, _++_, map}

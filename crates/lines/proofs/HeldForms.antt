@@ -1,6 +1,5 @@
 -- Which form is held as what: one case a form, so that what is held tells the form that was typed.
 use Prim.Native.Nat.{ℕ}
-use mathlib.Core.Path.{_≡_}
 use mathlib.Core.List.{List}
 use lib.ListN.{length}
 use Rattle.gf2.specs.Strings.{BitString}

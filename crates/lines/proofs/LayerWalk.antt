@@ -1,5 +1,5 @@
 -- A layer line is walked gate by gate: from place 6 on, each `layerGateAt` gives the next gate of `layerGates` and the place to go on from.
-use Prim.Native.Nat.{ℕ, zero, suc, _+_}
+use Prim.Native.Nat.{ℕ, _+_}
 use mathlib.Core.Path.{_≡_, refl, ap, sym, _∙_}
 use mathlib.Core.Bool.{Bool, true, false}
 use mathlib.Core.List.{List, [], _∷_}

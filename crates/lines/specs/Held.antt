@@ -1,5 +1,4 @@
 -- What the code holds of a line: numbers capped, bit strings as their length and their number modulo 2 ^ 16, of a layer the number of its gates.
-use Prim.Native.Nat.{ℕ}
 use lib.ListN.{length}
 use Rattle.circuit.specs.declared.Gate.{Gate}
 use Rattle.circuit.specs.declared.Gate.the-variants.{Ccz, Cz, Cnot}

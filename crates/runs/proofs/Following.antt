@@ -1,13 +1,12 @@
 -- The log follows the engine: at every point of a run the book holds the engine's circuit, and what is noted of the last `part` or `amp` is
 -- what the open sum was opened for.
-use mathlib.Core.Path.{_≡_, refl, ap, _∙_}
+use mathlib.Core.Path.{_≡_, refl}
 use mathlib.Core.Bool.{false, cond}
 use mathlib.Core.List.{List, [], _∷_}
 use Prim.Native.Nat.{ℕ, suc, _+_}
-use lib.ListN.{length, getD}
+use lib.ListN.{length}
 use Rattle.gf2.specs.Strings.{BitString}
 use Rattle.gf2.specs.Digits.{highFirst}
-use Rattle.circuit.specs.Sum.{Basis}
 use Rattle.slices.specs.Totals.{strings}
 use Rattle.text.specs.Spelling.{sameBytes, numberOfBits, begins}
 use Rattle.text.proofs.BitNumbers.{digits-back}
@@ -19,7 +18,7 @@ use Rattle.answers.specs.declared.Answer.the-variants as Answer
 use Rattle.answers.specs.Answers.{bytesOf}
 use Rattle.engine.specs.Engine.{Strings, Circuit, Purpose, amplitude, readout, OpenSum, closed, running, Loaded, absent, present}
 use Rattle.engine.specs.Response.{noStrings, asNumbers, outputWith, besideUnread, total}
-use Rattle.engine.proofs.Views.{Building, one, many, View, refuses, creates, adds, takesBack, starts, opensAmplitude, opensReadout, worksOn, finishes, drops, lists}
+use Rattle.engine.proofs.Views.{one, many, View, refuses, creates, adds, takesBack, starts, opensAmplitude, opensReadout, worksOn, finishes, drops, lists}
 use Rattle.runs.specs.Runs.{LineCall, line, answerOf, Entered, Book, none, holds, zeros, allZeros, isOk, entered, addGates, takeOff, setStart, inOrder, enterBy, enter, fed, Part, Last, last, isLeft, askedIn, noted, Amp, notedAmp, Log, logged}
 
 -- ---- what the book holds of an engine

@@ -9,7 +9,7 @@ use Rattle.lines.specs.Readings.{readingOf}
 use Rattle.engine.specs.declared.State.{State}
 use Rattle.engine.specs.Engine.{Loaded, Engine, freshEngine}
 use Rattle.engine.specs.State.{encode, Holds}
-use Rattle.engine.specs.Calls.{response, Given, FetchGiven}
+use Rattle.engine.specs.Calls.{response, Given}
 use Rattle.engine.proofs.Keeping.{fresh-held, held-on}
 use Rattle.engine.proofs.Outcomes.{Outcome, silent, spoken, outcome, bytes-given, Shown, shown, bytes-fetched}
 use Rattle.runs.specs.Runs.{LineCall, FetchCall, Call, line, fetch, Kept, Run, GivenFrom, answerOf, shownBy, isOk, isLeft, Log, emptyLog, logged, logFrom, logOf}

@@ -1,7 +1,7 @@
 -- Steps reach the end: from an accepted `part` on the sum stays open, and has worked through the k of the accepted steps, until they reach
 -- 2^m or a `drop` is accepted. So the step that reaches it answers the readout count.
 use mathlib.Core.Path.{_≡_, refl, ap, sym, _∙_, subst}
-use mathlib.Core.Bool.{Bool, true, false, _&&_, true≢false, false≢true, and-false}
+use mathlib.Core.Bool.{true, false, true≢false, false≢true, and-false}
 use mathlib.Core.List.{List, [], _∷_, _++_}
 use Prim.Native.Nat.{ℕ, suc, _+_, _*_, _^_, _≤_, _<_}
 use native.Mathlib.Nat.{zero-add, add-zero, add-assoc}
@@ -11,7 +11,7 @@ use Rattle.gf2.specs.Strings.{BitString}
 use Rattle.circuit.specs.declared.Colour.{Colour}
 use Rattle.text.specs.Spelling.{sameBytes, begins}
 use Rattle.lines.specs.declared.Class.the-variants as Class
-use Rattle.lines.specs.Typed.{Typed, part, opens, step, row}
+use Rattle.lines.specs.Typed.{part, opens, step, row}
 use Rattle.lines.specs.Spelling.{Reading, typed, refused}
 use Rattle.lines.specs.Readings.{readingOf}
 use Rattle.refusals.specs.Refusals.{classNumber, isClass}
@@ -20,7 +20,7 @@ use Rattle.answers.specs.declared.Answer.the-variants as Answer
 use Rattle.answers.specs.Answers.{bytesOf}
 use Rattle.engine.specs.Engine.{Circuit, Purpose, amplitude, readout, OpenSum, running, Loaded, present}
 use Rattle.engine.specs.Response.{openedOf, isRunning, total}
-use Rattle.engine.proofs.Views.{Building, one, many, View, refuses, creates, adds, takesBack, starts, opensAmplitude, opensReadout, worksOn, finishes, drops, lists}
+use Rattle.engine.proofs.Views.{one, View, refuses, creates, adds, takesBack, starts, opensAmplitude, opensReadout, worksOn, finishes, drops, lists}
 use Rattle.engine.proofs.Passing.{or-none}
 use Rattle.engine.proofs.Outcomes.{Outcome, silent, spoken}
 use Rattle.runs.specs.Runs.{LineCall, FetchCall, Call, line, fetch, answerOf, Entered, holds, isOk, isLeft, isAccepted, stepsOf, isDropped, stepsIn, dropsIn, Log, logged, IsReadout}

@@ -1,7 +1,7 @@
 -- What stands at a place of a line: a keyword, a number, a colour letter, a bit string. Places are counted from 0; an item is read
 -- from its place on, as far as it goes. The laws that tie these readers to the spellings are in proofs/.
 use Prim.Native.Nat.{ℕ, _+_, _-_, _*_, _%_, min}
-use mathlib.Core.Bool.{Bool, true, false, cond}
+use mathlib.Core.Bool.{cond}
 use mathlib.Core.List.{List, [], _∷_}
 use lib.Dec.{eqb, leb}
 use lib.ListN.{length, drop}
