@@ -43,6 +43,11 @@ flip (suc j) (x ∷ v) = x ∷ flip j v
 unfoldable pub cnot : ℕ → ℕ → BitString → BitString
 cnot c t v = cond (bit c v) (flip t v) v
 
+-- m zeros.
+unfoldable pub zeros : ℕ → BitString
+zeros zero = []
+zeros (suc m) = false ∷ zeros m
+
 -- Is every bit zero?
 unfoldable pub isZero : BitString → Bool
 isZero [] = true

@@ -1,7 +1,7 @@
--- Bits of a word, and the word as a bit string, the lowest digit first.
+-- Bits of a word, and the word as a bit string, the lowest digit first; the number that a bit string is.
 use mathlib.Core.Bool.{Bool, cond}
 use mathlib.Core.List.{List, [], _∷_, _++_}
-use Prim.Native.Nat.{ℕ, zero, suc, _+_, _/_, _^_}
+use Prim.Native.Nat.{ℕ, zero, suc, _+_, _*_, _/_, _^_}
 use lib.Bits.{bitXor}
 use lib.Dec.{ltb}
 use Rattle.gf2.specs.Strings.{BitString}
@@ -19,6 +19,14 @@ toggledAt width w k = cond (ltb k width) (bitXor w (2 ^ k)) w
 unfoldable pub lowFirst : ℕ → ℕ → BitString
 lowFirst zero w = []
 lowFirst (suc m) w = odd w ∷ lowFirst m (w / 2)
+
+-- The number that a bit string is, position 1 the highest digit.
+unfoldable pub numberAfter : ℕ → BitString → ℕ
+numberAfter v [] = v
+numberAfter v (b ∷ bs) = numberAfter (v * 2 + cond b 1 0) bs
+
+unfoldable pub numberOfBits : BitString → ℕ
+numberOfBits s = numberAfter 0 s
 
 -- The word whose bit k is f k, for k below n.
 unfoldable pub wordOf : ℕ → (ℕ → Bool) → ℕ

@@ -10,7 +10,8 @@ use lib.Dec.{eqb}
 use borrow.Author.Tests.{eqb-true}
 use Rattle.gf2.specs.Strings.{BitString}
 use Rattle.gf2.proofs.Impossible.{never}
-use Rattle.text.specs.Spelling.{bitDigits, numberAfter}
+use Rattle.gf2.specs.Words.{numberAfter}
+use Rattle.text.specs.Spelling.{bitDigits}
 use Rattle.text.specs.Reading.{bitsFrom}
 use Rattle.text.specs.Items.{frontBits, afterBits}
 use Rattle.text.specs.declared.BitsAt.the-variants.{Read as BitsRead}

@@ -14,7 +14,8 @@ use Rattle.circuit.specs.declared.Colour.{Colour}
 use Rattle.circuit.specs.declared.Colour.the-variants.{Red, Blue, Green}
 use Rattle.gf2.specs.Strings.{BitString}
 use Rattle.gf2.proofs.Impossible.{never}
-use Rattle.text.specs.Spelling.{bytes, decimal, letter, bitDigits, numberOfBits, begins}
+use Rattle.gf2.specs.Words.{numberOfBits}
+use Rattle.text.specs.Spelling.{bytes, decimal, letter, bitDigits, begins}
 use Rattle.text.specs.Reading.{capped, heldBits, readKeyword, digitsFrom, numberFrom, readNumber, colourFrom, readColour, bitsFrom, oneOrMore, readBits, afterKeyword, spacedNumber, spacedBits}
 use Rattle.text.specs.Items.{valueFrom}
 use Rattle.text.specs.declared.Bits.{Bits}

@@ -8,7 +8,8 @@ use lib.ListN.{length, drop}
 use Rattle.circuit.specs.declared.Colour.{Colour}
 use Rattle.circuit.specs.declared.Colour.the-variants.{Red, Blue, Green}
 use Rattle.gf2.specs.Strings.{BitString}
-use Rattle.text.specs.Spelling.{bytes, begins, numberOfBits}
+use Rattle.gf2.specs.Words.{numberOfBits}
+use Rattle.text.specs.Spelling.{bytes, begins}
 use Rattle.text.specs.declared.Bits.{Bits}
 use Rattle.text.specs.declared.KeywordAt.{KeywordAt}
 use Rattle.text.specs.declared.KeywordAt.the-variants.{Ends, Missing as NoKeyword}

@@ -1,5 +1,5 @@
 -- How the items of a line are spelled (document 01, "Bracket lines").
-use Prim.Native.Nat.{ℕ, zero, suc, _+_, _*_, _/_, _%_}
+use Prim.Native.Nat.{ℕ, zero, suc, _+_, _/_, _%_}
 use Prim.Native.String.{String, [] as none, _∷_ as _then_}
 use Prim.Native.Char.{code}
 use mathlib.Core.Bool.{Bool, true, false, cond}
@@ -55,14 +55,6 @@ letter Green = 103
 unfoldable pub bitDigits : BitString → List ℕ
 bitDigits [] = []
 bitDigits (b ∷ bs) = cond b 49 48 ∷ bitDigits bs
-
--- The number that a bit string is, position 1 the highest digit.
-unfoldable pub numberAfter : ℕ → BitString → ℕ
-numberAfter v [] = v
-numberAfter v (b ∷ bs) = numberAfter (v * 2 + cond b 1 0) bs
-
-unfoldable pub numberOfBits : BitString → ℕ
-numberOfBits s = numberAfter 0 s
 
 -- A position of a colour in its brackets: (C i)
 unfoldable pub spelledSpot : Spot → List ℕ

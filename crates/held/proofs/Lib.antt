@@ -1,0 +1,3 @@
+pub mod GateHistory
+pub mod GateLists
+pub mod GateStates
