@@ -1,0 +1,191 @@
+-- Slices worked: what they add up to, by what the sum was opened for, and that a word holds it.
+use mathlib.Core.Path.{_≡_, refl, ap, ap₂, sym, subst, _∙_}
+use mathlib.Core.Bool.{cond, _&&_}
+use mathlib.Core.List.{List, [], _∷_}
+use Prim.Native.Nat.{ℕ, zero, suc, _+_, _*_, _^_, _≤_}
+use native.Mathlib.Nat.{mul-le-mul-right}
+use native.Mathlib.Omega.{arith}
+use lib.IntN.{ℤ, _+ℤ_}
+use lib.ListN.{length}
+use lib.Pow.{pow-add, pow-mono}
+use mir.Facts.{toZ-ofZ}
+use mir.Syntax.{w64}
+use mir.Val.{toZ, ofZ}
+use Rattle.gf2.specs.Strings.{BitString, _⊞_, zeros}
+use Rattle.gf2.specs.Words.{numberOfBits}
+use Rattle.gf2.proofs.BitNumbers.{long-back}
+use Rattle.gf2.proofs.Impossible.{never}
+use Rattle.circuit.specs.declared.Colour.{Colour}
+use Rattle.circuit.specs.declared.Colour.the-variants.{Red, Blue, Green}
+use Rattle.circuit.specs.declared.Gate.{Gate}
+use Rattle.circuit.specs.Colours.{first, second, join}
+use Rattle.circuit.specs.Sum.{Basis}
+use Rattle.circuit.specs.Polynomial.{Polynomial, polynomial}
+use Rattle.slices.specs.Packing.{Tabled}
+use Rattle.slices.specs.Totals.{strings, withStart, areSlices, moderate, moderateCount, amplitudeAfter, amplitudeOver, readoutAfter, readoutOver}
+use Rattle.slices.proofs.Bounds.{amplitudeAfter-bound}
+use Rattle.slices.proofs.OutcomeTests.{abs-fits}
+use Rattle.slices.proofs.SliceTotals.{amplitude-continued, readout-continued}
+use Rattle.held.specs.Circuit.{Circuit}
+use Rattle.held.specs.Memory.{Long, SoundCircuit}
+use Rattle.lines.specs.Typed.{Asked, amp, part}
+use Rattle.sums.specs.declared.Total.{Total}
+use Rattle.sums.specs.declared.Total.the-variants.{Closed, Amplitude, Readout}
+use Rattle.sums.specs.Tables.{sliced, output, tableFor}
+use Rattle.sums.specs.Sums.{OpenSum, totalAfter}
+use Rattle.sums.specs.Soundness.{SoundSum}
+
+-- A signed number as a word of 64 bits holds it.
+abbrev pub inWord : ℤ → ℤ
+inWord z = toZ w64 (ofZ w64 z)
+
+-- A total of slices is at most 2^48 from 0, so a word holds it.
+amplitude-in-word :
+    (m : ℕ) (f : Polynomial) (C : Colour) (s : Basis) (w : ℕ) → m ≤ 16 → w ≤ 2 ^ m → inWord (amplitudeAfter m f C s w) ≡ amplitudeAfter m f C s w
+amplitude-in-word m f C s w h l =
+    toZ-ofZ
+    (abs-fits (amplitudeAfter m f C s w)
+    (omega (
+      arith,
+      amplitudeAfter-bound m f C s w,
+      mul-le-mul-right (2 ^ (2 * m)) l,
+      pow-add 2 m (2 * m),
+      pow-mono {i = m + 2 * m} {j = 48} (omega arith),
+    )))
+
+-- What working through slices promises.
+abbrev pub AmplitudeWorked : List ℕ → ℕ → ℕ → ℕ → ℤ → ℤ → Type 0
+AmplitudeWorked table m from count a x =
+    (gs : List Gate) (C : Colour) (r b g : ℕ) → Tabled m gs C (strings m r b g) table →
+    x ≡ cond (areSlices m from count && moderate a) (a +ℤ amplitudeOver m (polynomial gs) C (strings m r b g) from count) a
+
+abbrev pub ReadoutWorked : List ℕ → ℕ → ℕ → ℕ → ℕ → ℕ → Type 0
+ReadoutWorked table m from count a x =
+    (gs : List Gate) (C : Colour) (r b g : ℕ) → Tabled m gs C (strings m r b g) table →
+    x ≡ cond (areSlices m from count && moderateCount a)
+    (a + readoutOver m (polynomial gs) C (first C (strings m r b g)) (second C (strings m r b g)) from count) a
+
+length-sum : (m : ℕ) (a b : BitString) → length a ≡ m → length b ≡ m → length (a ⊞ b) ≡ m
+unfolding _⊞_
+length-sum m [] b h k = k
+length-sum m (x ∷ a) [] h k = h
+length-sum zero (x ∷ a) (y ∷ b) h k = absurd (omega arith)
+length-sum (suc m) (x ∷ a) (y ∷ b) h k = ap suc (length-sum m a b (omega arith) (omega arith))
+
+module _ (c : Circuit) (q : Asked) (sound : SoundCircuit c) (long : Long (c .m) (output (c .m) q)) where
+  -- The output string with the start's ones added.
+  out : Basis
+  out = withStart (c .start) (output (c .m) q)
+
+  by-numbers : strings (c .m) (numberOfBits (out .red)) (numberOfBits (out .blue)) (numberOfBits (out .green)) ≡ out
+  unfolding strings out withStart
+  by-numbers =
+      rw (
+        long-back (c .m) (out .red) (length-sum (c .m) _ _ (long .red) (sound .start .red)),
+        long-back (c .m) (out .blue) (length-sum (c .m) _ _ (long .blue) (sound .start .blue)),
+        long-back (c .m) (out .green) (length-sum (c .m) _ _ (long .green) (sound .start .green)),
+      )
+
+  module _ (table : List ℕ) (made : table ≡ tableFor q c) (from count : ℕ) (within : from + count ≤ 2 ^ c .m) where
+    tabled : Tabled (c .m) (c .gates) (sliced q) out table
+    unfolding tableFor out
+    tabled = record { gates = sound .gates; made = made }
+
+    amplitude-worked :
+        (a x : ℤ) → AmplitudeWorked table (c .m) from count a x → a ≡ amplitudeAfter (c .m) (polynomial (c .gates)) (sliced q) out from →
+        x ≡ amplitudeAfter (c .m) (polynomial (c .gates)) (sliced q) out (from + count)
+    amplitude-worked a x w is =
+        amplitude-continued (c .m) (polynomial (c .gates)) (sliced q) out from count a x
+        (rw by-numbers at (w (c .gates) (sliced q) (numberOfBits (out .red)) (numberOfBits (out .blue)) (numberOfBits (out .green)) (rw by-numbers tabled)))
+        (sound .most)
+        within
+        is
+
+    readout-worked :
+        (a x : ℕ) → ReadoutWorked table (c .m) from count a x →
+        a ≡ readoutAfter (c .m) (polynomial (c .gates)) (sliced q) (first (sliced q) out) (second (sliced q) out) from →
+        x ≡ readoutAfter (c .m) (polynomial (c .gates)) (sliced q) (first (sliced q) out) (second (sliced q) out) (from + count)
+    readout-worked a x w is =
+        readout-continued (c .m) (polynomial (c .gates)) (sliced q) (first (sliced q) out) (second (sliced q) out) from count a x
+        (rw by-numbers at (w (c .gates) (sliced q) (numberOfBits (out .red)) (numberOfBits (out .blue)) (numberOfBits (out .green)) (rw by-numbers tabled)))
+        (sound .most)
+        within
+        is
+
+-- Beside the unread colour stand X and Y with the start's ones.
+first-out : (C : Colour) (z x y : BitString) (t : Basis) → first C (withStart t (join C z x y)) ≡ x ⊞ first C t
+unfolding first withStart join
+first-out Red z x y t = refl
+first-out Blue z x y t = refl
+first-out Green z x y t = refl
+
+second-out : (C : Colour) (z x y : BitString) (t : Basis) → second C (withStart t (join C z x y)) ≡ y ⊞ second C t
+unfolding second withStart join
+second-out Red z x y t = refl
+second-out Blue z x y t = refl
+second-out Green z x y t = refl
+
+-- ---- by what the sum was opened for
+
+-- The total of a sum is that of an amplitude or a readout count, never none.
+pub never-closed : {X : Type 0} (q : Asked) (c : Circuit) (w : ℕ) (t : Total) → t ≡ totalAfter q c w → t ≡ Closed → X
+unfolding totalAfter
+never-closed (amp C r b g) c w t e z = never (cc)
+never-closed (part C x y) c w t e z = never (cc)
+
+-- A word holds the total of an amplitude.
+pub total-in-word : (q : Asked) (c : Circuit) (w : ℕ) (z : ℤ) → c .m ≤ 16 → w ≤ 2 ^ c .m → Amplitude z ≡ totalAfter q c w → inWord z ≡ z
+unfolding totalAfter
+total-in-word (amp C r b g) c w z few most e =
+    let is : z ≡ amplitudeAfter (c .m) (polynomial (c .gates)) C (withStart (c .start) (record { red = r; blue = b; green = g })) w = cc in
+    ap inWord is ∙ amplitude-in-word (c .m) _ C _ w few most ∙ sym is
+total-in-word (part C x y) c w z few most e = never (cc)
+
+amplitude-by :
+    (q : Asked) (c : Circuit) → SoundCircuit c → Long (c .m) (output (c .m) q) → (table : List ℕ) → table ≡ tableFor q c → (from count : ℕ) →
+    from + count ≤ 2 ^ c .m → (z x : ℤ) → Amplitude z ≡ totalAfter q c from → AmplitudeWorked table (c .m) from count (inWord z) x →
+    Amplitude (inWord x) ≡ totalAfter q c (from + count)
+unfolding totalAfter output sliced out
+amplitude-by (amp C r b g) c s long table made from count within z x e w =
+    let f = polynomial (c .gates) in
+    let S = withStart (c .start) (record { red = r; blue = b; green = g }) in
+    let is : z ≡ amplitudeAfter (c .m) f C S from = cc in
+    let before : inWord z ≡ amplitudeAfter (c .m) f C S from =
+    ap inWord is ∙ amplitude-in-word (c .m) f C S from (s .most) (omega arith) in
+    let after = amplitude-worked c (amp C r b g) s long table made from count within (inWord z) x w before in
+    ap (λ (y : ℤ). Amplitude (inWord y)) after ∙ ap Amplitude (amplitude-in-word (c .m) f C S (from + count) (s .most) within)
+amplitude-by (part C x y) c s long table made from count within z v e w = never (cc)
+
+readout-by :
+    (q : Asked) (c : Circuit) → SoundCircuit c → Long (c .m) (output (c .m) q) → (table : List ℕ) → table ≡ tableFor q c → (from count : ℕ) →
+    from + count ≤ 2 ^ c .m → (z x : ℕ) → Readout z ≡ totalAfter q c from → ReadoutWorked table (c .m) from count z x →
+    Readout x ≡ totalAfter q c (from + count)
+unfolding totalAfter output sliced out
+readout-by (amp C r b g) c s long table made from count within z x e w = never (cc)
+readout-by (part C x y) c s long table made from count within z v e w =
+    let f = polynomial (c .gates) in
+    let is : z ≡ readoutAfter (c .m) f C (x ⊞ first C (c .start)) (y ⊞ second C (c .start)) from = cc in
+    let before : z ≡ readoutAfter (c .m) f C (first C (withStart (c .start) (join C (zeros (c .m)) x y))) (second C (withStart (c .start) (join C (zeros (c .m)) x y))) from =
+    rw (first-out C (zeros (c .m)) x y (c .start), second-out C (zeros (c .m)) x y (c .start)) is in
+    let after = readout-worked c (part C x y) s long table made from count within z v w before in
+    ap Readout (rw (first-out C (zeros (c .m)) x y (c .start), second-out C (zeros (c .m)) x y (c .start)) at after)
+
+module _ (m : ℕ) (o : OpenSum) (s : SoundSum m o) (table : List ℕ) (made : table ≡ tableFor (o .asked) (o .circuit)) (from count : ℕ)
+    (within : from + count ≤ 2 ^ m) (total : Total) (is : total ≡ totalAfter (o .asked) (o .circuit) from) where
+  long-there : Long (o .circuit .m) (output (o .circuit .m) (o .asked))
+  long-there = subst (λ (n : ℕ). Long n (output n (o .asked))) (sym (s .positions)) (s .strings)
+
+  within-there : from + count ≤ 2 ^ o .circuit .m
+  within-there = subst (λ (n : ℕ). from + count ≤ 2 ^ n) (sym (s .positions)) within
+
+  pub amplitude-further :
+      (z x : ℤ) → total ≡ Amplitude z → AmplitudeWorked table m from count (inWord z) x → Amplitude (inWord x) ≡ totalAfter (o .asked) (o .circuit) (from + count)
+  amplitude-further z x told w =
+      amplitude-by (o .asked) (o .circuit) (s .circuit) long-there table made from count within-there z x (sym told ∙ is)
+      (subst (λ (n : ℕ). AmplitudeWorked table n from count (inWord z) x) (sym (s .positions)) w)
+
+  pub readout-further :
+      (z x : ℕ) → total ≡ Readout z → ReadoutWorked table m from count z x → Readout x ≡ totalAfter (o .asked) (o .circuit) (from + count)
+  readout-further z x told w =
+      readout-by (o .asked) (o .circuit) (s .circuit) long-there table made from count within-there z x (sym told ∙ is)
+      (subst (λ (n : ℕ). ReadoutWorked table n from count z x) (sym (s .positions)) w)
