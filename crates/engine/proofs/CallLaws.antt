@@ -1,6 +1,6 @@
 -- What the public calls give: a line skipped, a buffer too short, a line answered; a fetch with no line and with one.
 use mathlib.Core.Path.{_≡_, refl, ap, sym, _∙_}
-use mathlib.Core.Bool.{Bool, true, false, cond}
+use mathlib.Core.Bool.{Bool, true, false, cond, _&&_}
 use mathlib.Core.List.{List, []}
 use Prim.Native.Nat.{ℕ, zero, suc, _-_, _≤_, _<_}
 use native.Mathlib.Omega.{arith}
@@ -13,35 +13,30 @@ use Rattle.circuit.specs.declared.Gate.the-variants as Gate
 use Rattle.circuit.specs.declared.Entry.{Entry}
 use Rattle.circuit.specs.declared.Entry.the-variants.{Listed as ListedAt, Nothing}
 use Rattle.circuit.specs.Sum.{isGate}
-use Rattle.circuit.specs.Polynomial.{Polynomial, appliedAll, polynomial}
+use Rattle.circuit.specs.Polynomial.{Polynomial, polynomial}
 use Rattle.circuit.specs.Words.{wordsOf}
 use Rattle.circuit.specs.Listing.{listing, entryOf}
 use Rattle.circuit.proofs.Gates.{ccz-positions, cz-positions, cnot-positions}
 use Rattle.circuit.proofs.TermGates.{entry-gate}
+use Rattle.held.specs.Memory.{encodeCircuit}
 use Rattle.lines.specs.Readings.{readingOf}
 use Rattle.answers.specs.declared.Answer.{Answer}
 use Rattle.answers.specs.declared.Answer.the-variants as Answer
 use Rattle.answers.specs.Answers.{bytesOf, infront, Written}
 use Rattle.answers.proofs.Lengths.{ModestGate, answer-fits}
 use Rattle.engine.specs.declared.State.{State}
-use Rattle.engine.specs.Engine.{Loaded, absent, present, Engine}
-use Rattle.engine.specs.Response.{circuitOf, gatesOf}
-use Rattle.engine.specs.State.{encodeLoaded, encode, Holds}
-use Rattle.engine.specs.Calls.{refusalNumber, hasLines, answering, tooShort, skipped, response, Given, entryBytes, lineNumbered, laterLine, fetchedBytes, FetchGiven}
-use Rattle.engine.specs.Turns.{Turned}
+use Rattle.engine.specs.Engine.{Engine, turnOf}
+use Rattle.engine.specs.Calls.{encode, Holds, answering, tooShort, skipped, response, Given, entryBytes, lineNumbered, laterLine, fetchedBytes, FetchGiven}
+use Rattle.engine.specs.Turns.{refusalNumber, hasLines, encoded, Turned}
+use Rattle.engine.proofs.TurnRefused.{turn-number, turn-lines}
 use Rattle.engine.proofs.TurnAnswers.{turn-fits}
-use Rattle.engine.proofs.TurnTaken.{listed-kept}
+use Rattle.engine.proofs.TurnLaws.{circuit-held, listed-held}
 
 -- ---- states and buffers
 
 -- Whether lines can be fetched is a field of its own.
 abbrev withLines : State → Bool → State
-withLines s b = record { m = s .m; held = s .held; start = s .start; polynomial = s .polynomial; sum = s .sum; listed = b }
-
-relisted : (x : Loaded) (l b : Bool) (s : State) → s ≡ encodeLoaded x l → withLines s b ≡ encodeLoaded x b
-unfolding encodeLoaded
-relisted absent l b s e = rw e
-relisted (present c o) l b s e = rw e
+withLines s b = record { circuit = s .circuit; sum = s .sum; listed = b }
 
 -- A text that has room is written whole.
 record Whole (text buffer : List ℕ) (count : ℕ) (after : List ℕ) : Type 0 where
@@ -68,7 +63,7 @@ module _ (e : Engine) (s : State) (h line buffer : List ℕ) (held : Holds e s h
     given-short l =
         let t : eqb (length line) 0 ≡ false = ne-eqb (length line) 0 some in
         let r : ltb (length buffer) 64 ≡ true = lt-ltb (length buffer) 64 l in
-        record { state = rw (t, r) (relisted (e .loaded) (e .listed) false s (held .state)); len = rw (t, r); refusal = rw (t, r); history = rw (t, r); stands = rw (t, r) }
+        record { state = rw (t, r, held .state); len = rw (t, r); refusal = rw (t, r); history = rw (t, r); stands = rw (t, r) }
 
     pub given-answer :
         64 ≤ length buffer → (s' : State) (a : Answer) (h' : List ℕ) (count : ℕ) (buffer' : List ℕ) (lines : Bool) (number : ℕ) →
@@ -78,21 +73,17 @@ module _ (e : Engine) (s : State) (h line buffer : List ℕ) (held : Holds e s h
     given-answer l s' a h' count buffer' lines number d w m n =
         let t : eqb (length line) 0 ≡ false = ne-eqb (length line) 0 some in
         let r : ltb (length buffer) 64 ≡ false = le-ltb (length buffer) 64 l in
-        let whole = written-whole _ buffer count buffer' (rw (d .answer) (turn-fits (e .loaded) (length h) line (held .sound))) l w in
+        let whole = written-whole _ buffer count buffer' (rw (d .turn .answer) (turn-fits e (length h) line (held .sound))) l w in
+        let listed = m ∙ ap hasLines (d .turn .answer) ∙ turn-lines (e .circuit) (e .opened) (length h) (readingOf line) in
         record {
-          state = rw (t, r, ← d .answer, m) (relisted _ (e .listed) (hasLines a) s' (d .state));
-          len = rw (t, r, ← d .answer) (whole .counted);
-          refusal = rw (t, r, ← d .answer) n;
-          history = rw (t, r, ← d .answer) (d .history);
-          stands = rw (t, r, ← d .answer) (whole .stands);
+          state = rw (t, r, d .turn .state, listed);
+          len = rw (t, r, ← d .turn .answer) (whole .counted);
+          refusal = rw (t, r) (n ∙ ap refusalNumber (d .turn .answer) ∙ turn-number (e .circuit) (e .opened) (length h) (readingOf line));
+          history = rw (t, r) (d .history);
+          stands = rw (t, r, ← d .turn .answer) (whole .stands);
         }
 
 -- ---- a fetch
-
-words-held : (x : Loaded) (l : Bool) → encodeLoaded x l .polynomial ≡ wordsOf (polynomial (gatesOf x))
-unfolding encodeLoaded circuitOf polynomial appliedAll
-words-held absent l = refl
-words-held (present c o) l = refl
 
 line-at : (gs : List Gate) (n : ℕ) → (n ≡ 0 → ⊥) → lineNumbered gs n ≡ entryBytes (entryOf (listing 16 (polynomial gs)) (n - 1))
 unfolding lineNumbered
@@ -130,19 +121,19 @@ module _ (e : Engine) (s : State) (h buffer : List ℕ) (held : Holds e s h) (n 
         nought false = refl
 
     pub fetch-unlisted : s .listed ≡ false → FetchGiven e n buffer (record { len = 0; refusal = 0 }) buffer
-    unfolding laterLine encode
-    fetch-unlisted u = no-line (rw (sym (ap (λ (t : State). t .listed) (held .state) ∙ listed-kept (e .loaded) (e .listed)) ∙ u))
+    unfolding laterLine
+    fetch-unlisted u = no-line (rw (sym (listed-held e s (held .state)) ∙ u))
 
-    module _ (some : n ≡ 0 → ⊥) (lists : s .listed ≡ true) (found : Entry) (entry : (f : Polynomial) → s .polynomial ≡ wordsOf f → found ≡ entryOf (listing 16 f) (n - 1)) where
-      entry-found : found ≡ entryOf (listing 16 (polynomial (gatesOf (e .loaded)))) (n - 1)
-      unfolding encode
-      entry-found = entry _ (ap (λ (t : State). t .polynomial) (held .state) ∙ words-held (e .loaded) (e .listed))
+    module _ (some : n ≡ 0 → ⊥) (lists : s .listed ≡ true) (found : Entry) (entry : (f : Polynomial) → s .circuit .polynomial ≡ wordsOf f → found ≡ entryOf (listing 16 f) (n - 1)) where
+      entry-found : found ≡ entryOf (listing 16 (polynomial (e .circuit .gates))) (n - 1)
+      unfolding encodeCircuit
+      entry-found = entry _ (ap (λ k. k .polynomial) (circuit-held e s (held .state)))
 
       later-line : laterLine e n ≡ entryBytes found
-      unfolding laterLine encode
+      unfolding laterLine
       later-line =
-          rw (sym (ap (λ (t : State). t .listed) (held .state) ∙ listed-kept (e .loaded) (e .listed)) ∙ lists)
-          (line-at (gatesOf (e .loaded)) n some ∙ ap entryBytes (sym entry-found))
+          rw (sym (listed-held e s (held .state)) ∙ lists)
+          (line-at (e .circuit .gates) n some ∙ ap entryBytes (sym entry-found))
 
       pub fetch-past : found ≡ Nothing → FetchGiven e n buffer (record { len = 0; refusal = 0 }) buffer
       unfolding entryBytes
@@ -154,6 +145,6 @@ module _ (e : Engine) (s : State) (h buffer : List ℕ) (held : Holds e s h) (n 
       unfolding fetchedBytes entryBytes
       fetch-line g count buffer' z w =
           let line : laterLine e n ≡ bytesOf (Answer.Listed g) = later-line ∙ ap entryBytes z in
-          let valid : isGate 16 g ≡ true = entry-gate 16 (polynomial (gatesOf (e .loaded))) (n - 1) g (sym entry-found ∙ z) in
+          let valid : isGate 16 g ≡ true = entry-gate 16 (polynomial (e .circuit .gates)) (n - 1) g (sym entry-found ∙ z) in
           let whole = written-whole _ buffer count buffer' (answer-fits (Answer.Listed g) (gate-modest g valid)) room w in
           record { len = rw (long, line) (whole .counted); refusal = rw long; stands = rw (long, line) (whole .stands) }

@@ -1,22 +1,18 @@
--- The gates that an engine holds are gates of its circuit: those of a line that passes the tests, those added at the end, those left by an undo.
+-- The gates of a line that passes the tests are gates of the circuit.
 use mathlib.Core.Path.{_≡_, refl}
 use mathlib.Core.Bool.{Bool, true, false, not, _&&_}
-use mathlib.Core.List.{List, [], _∷_, _++_}
-use Prim.Native.Nat.{ℕ, zero, suc}
+use mathlib.Core.List.{List, [], _∷_}
+use Prim.Native.Nat.{ℕ}
 use lib.Dec.{eqb}
-use lib.ListN.{take}
 use Rattle.gf2.proofs.Bits.{and-both}
 use Rattle.circuit.specs.declared.Gate.{Gate}
 use Rattle.circuit.specs.declared.Gate.the-variants as Gate
 use Rattle.circuit.specs.Colours.{sameColour}
 use Rattle.circuit.specs.Sum.{isPosition, isGate, areGates}
+use Rattle.held.proofs.GateLists.{both}
 use Rattle.lines.specs.Spelling.{colourTwice, anyColourTwice}
 use Rattle.refusals.specs.Refusals.{inRange, allInRange, onItself, anyOnItself}
 use Rattle.engine.proofs.Passing.{or-none}
-
-both : (a b : Bool) → a ≡ true → b ≡ true → a && b ≡ true
-both true b h k = k
-both false b h k = h
 
 both-not : (a b c : Bool) → a && b ≡ true → c ≡ false → a && (b && not c) ≡ true
 both-not true true c h k = rw k
@@ -38,18 +34,3 @@ gates-by-tests m (g ∷ gs) r s t =
     let c = or-none (colourTwice g) (anyColourTwice gs) t in
     both (isGate m g) (areGates m gs) (gate-by-tests m g (and-both (inRange m g) (allInRange m gs) r .0) (i .0) (c .0))
     (gates-by-tests m gs (and-both (inRange m g) (allInRange m gs) r .1) (i .1) (c .1))
-
-pub gates-added : (m : ℕ) (gs hs : List Gate) → areGates m gs ≡ true → areGates m hs ≡ true → areGates m (gs ++ hs) ≡ true
-unfolding areGates
-gates-added m [] hs g h = h
-gates-added m (x ∷ gs) hs g h =
-    both (isGate m x) (areGates m (gs ++ hs)) (and-both (isGate m x) (areGates m gs) g .0)
-    (gates-added m gs hs (and-both (isGate m x) (areGates m gs) g .1) h)
-
-pub gates-left : (m n : ℕ) (gs : List Gate) → areGates m gs ≡ true → areGates m (take n gs) ≡ true
-unfolding areGates
-gates-left m zero gs g = refl
-gates-left m (suc n) [] g = refl
-gates-left m (suc n) (x ∷ gs) g =
-    both (isGate m x) (areGates m (take n gs)) (and-both (isGate m x) (areGates m gs) g .0)
-    (gates-left m n gs (and-both (isGate m x) (areGates m gs) g .1))

@@ -17,18 +17,19 @@ use Rattle.answers.specs.declared.Answer.the-variants as Answer
 use Rattle.answers.specs.Answers.{bytesOf, infront}
 use Rattle.engine.specs.declared.Reply.{Reply}
 use Rattle.engine.specs.declared.Fetched.{Fetched}
-use Rattle.engine.specs.Engine.{Loaded, Engine}
+use Rattle.held.specs.Circuit.{Circuit}
+use Rattle.sums.specs.Sums.{Opened}
+use Rattle.engine.specs.Engine.{Engine}
 use Rattle.engine.specs.Calls.{answering, tooShort, skipped, Response, response, Given, entryBytes, lineNumbered, laterLine, fetchedBytes, FetchGiven}
-use Rattle.engine.specs.Response.{gatesOf}
 use Rattle.engine.proofs.Views.{View, view}
 
 -- A line that is skipped, or whose buffer is too short, has no answer and leaves the engine; any other has its answer's bytes.
-pub data Outcome (room : ℕ) (line : List ℕ) (e : Loaded) : Loaded → List ℕ → Type 0 where
-  silent : Outcome room line e e []
-  spoken : {e' : Loaded} {a : Answer} → View room e (readingOf line) e' a → Outcome room line e e' (bytesOf a)
+pub data Outcome (room : ℕ) (line : List ℕ) (c : Circuit) (o : Opened) : Circuit → Opened → List ℕ → Type 0 where
+  silent : Outcome room line c o c o []
+  spoken : {c' : Circuit} {o' : Opened} {a : Answer} → View room c o (readingOf line) c' o' a → Outcome room line c o c' o' (bytesOf a)
 
 abbrev OutcomeOf : Engine → List ℕ → List ℕ → Response → Type 0
-OutcomeOf e h line r = Outcome (length h) line (e .loaded) (r .after .loaded) (r .bytes)
+OutcomeOf e h line r = Outcome (length h) line (e .circuit) (e .opened) (r .after .circuit) (r .after .opened) (r .bytes)
 
 pub outcome : (e : Engine) (h line : List ℕ) (room : ℕ) → OutcomeOf e h line (response e h line room)
 unfolding response skipped tooShort answering
@@ -37,7 +38,7 @@ outcome e h line room = go (eqb (length line) 0) (ltb room 64)
     go : (p q : Bool) → OutcomeOf e h line (cond p (skipped e h) (cond q (tooShort e h) (answering e h line)))
     go true q = silent
     go false true = silent
-    go false false = spoken (view (length h) line (e .loaded))
+    go false false = spoken (view (length h) line (e .circuit) (e .opened))
 
 -- The answer's bytes stand at the front of the buffer.
 pub bytes-given :
@@ -67,9 +68,9 @@ pub shown : (e : Engine) (n room : ℕ) → Shown (fetchedBytes e n room)
 unfolding fetchedBytes laterLine
 shown e n room = go (ltb room 64) (e .listed)
   where
-    go : (p q : Bool) → Shown (cond p [] (cond q (lineNumbered (gatesOf (e .loaded)) n) []))
+    go : (p q : Bool) → Shown (cond p [] (cond q (lineNumbered (e .circuit .gates) n) []))
     go true q = nothing
-    go false true = line-shown (gatesOf (e .loaded)) n
+    go false true = line-shown (e .circuit .gates) n
     go false false = nothing
 
 pub bytes-fetched :

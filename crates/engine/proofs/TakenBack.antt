@@ -6,16 +6,15 @@ use native.Mathlib.Omega.{arith}
 use lib.ListN.{length, take, length-append}
 use lib.Seq.{take-append-seam}
 use Rattle.circuit.specs.declared.Gate.{Gate}
+use Rattle.held.specs.Circuit.{Circuit, withGates, withoutLast}
 use Rattle.lines.specs.Typed.{undo}
 use Rattle.answers.specs.declared.Answer.the-variants as Answer
-use Rattle.engine.specs.Engine.{Circuit, Opened, present}
-use Rattle.engine.specs.Response.{withoutLast, accepted}
-use Rattle.engine.specs.Turns.{extended}
+use Rattle.sums.specs.Sums.{Opened}
+use Rattle.engine.specs.Engine.{gives, accepted}
 
 -- By the contract of a line the state is a function of the engine alone, so every byte of it is as before.
-pub taken-back : (c : Circuit) (o : Opened) (gs : List Gate) →
-    accepted (extended c gs) o (undo (length gs)) ≡ record { after = present c o; answer = Answer.Ok }
-unfolding accepted withoutLast extended
+pub taken-back : (c : Circuit) (o : Opened) (gs : List Gate) → accepted (withGates gs c) o (undo (length gs)) ≡ gives c o Answer.Ok
+unfolding accepted withoutLast withGates
 taken-back c o gs =
     let count : length (c .gates ++ gs) - length gs ≡ length (c .gates) = omega (arith, length-append (c .gates) gs) in
     let first : take (length (c .gates ++ gs) - length gs) (c .gates ++ gs) ≡ c .gates = ap (λ (n : ℕ). take n (c .gates ++ gs)) count ∙ take-append-seam (c .gates) gs in

@@ -14,6 +14,8 @@ use Rattle.circuit.specs.Listing.{listing, occurrences, gateOfTerm, entryOf}
 use Rattle.circuit.proofs.Entries.{entryOf-past, entryOf-getD}
 use Rattle.circuit.proofs.EveryTermOnce.{listing-once}
 use Rattle.circuit.proofs.MorePositions.{listing-16}
+use Rattle.held.specs.Circuit.{Circuit}
+use Rattle.held.specs.Memory.{SoundCircuit}
 use Rattle.text.specs.Spelling.{bytes, spelledGate}
 use Rattle.lines.specs.Typed.{terms, row}
 use Rattle.lines.specs.Spelling.{spelled, typed}
@@ -23,10 +25,9 @@ use Rattle.answers.specs.declared.Answer.the-variants as Answer
 use Rattle.answers.specs.Answers.{bytesOf}
 use Rattle.refusals.specs.Refusals.{orElse, refusedIf, classNumber, isClass, works, momentRefusal, within, allInRange, anyOnItself, outOfRange, anyNotLong, operandRefusal, places, undoesMore, historyRefusal, rowRefusal, refusalBy}
 use Rattle.engine.specs.declared.Reply.{Reply}
-use Rattle.engine.specs.Engine.{Circuit, closed, running, Loaded, absent, present, Engine}
-use Rattle.engine.specs.Soundness.{Sound, SoundCircuit}
-use Rattle.engine.specs.Response.{termsOf, accepted, hasCircuit, circuitOf, openedOf, isRunning, refusalOf, turnBy, turnOf}
-use Rattle.engine.specs.Calls.{refusalNumber, hasLines, answering, tooShort, response, Given, entryBytes, lineNumbered, laterLine, fetchedBytes}
+use Rattle.engine.specs.Engine.{Engine, accepted, refusalOf, turnBy, turnOf}
+use Rattle.engine.specs.Soundness.{Sound}
+use Rattle.engine.specs.Calls.{asksTerms, answering, tooShort, response, Given, entryBytes, lineNumbered, laterLine, fetchedBytes}
 use Rattle.engine.proofs.Outcomes.{bytes-given}
 
 -- The terms of a circuit in order, and the line of each.
@@ -36,17 +37,16 @@ termsIn c = listing (c .m) (polynomial (c .gates))
 abbrev pub spelledTerm : Term → List ℕ
 spelledTerm h = spelledGate (gateOfTerm (h .red) (h .blue) (h .green))
 
-pub record TermsListed (e : Engine) (c : Circuit) (answer : List ℕ) (after : Engine) : Type 0 where
-  pub held : e .loaded ≡ present c closed
-  pub kept : after .loaded ≡ present c closed
+pub record TermsListed (e : Engine) (answer : List ℕ) (after : Engine) : Type 0 where
+  pub kept : (after .circuit ≡ e .circuit) × (after .opened ≡ e .opened)
   -- "`(terms N)` and then N lines"
-  pub count : answer ≡ bytesOf (Answer.Terms (length (termsIn c)))
-  pub line : (n room : ℕ) → 64 ≤ room → n < length (termsIn c) → fetchedBytes after (n + 1) room ≡ spelledTerm (getD (termsIn c) n (term 0 0 0))
+  pub count : answer ≡ bytesOf (Answer.Terms (length (termsIn (e .circuit))))
+  pub line : (n room : ℕ) → 64 ≤ room → n < length (termsIn (e .circuit)) → fetchedBytes after (n + 1) room ≡ spelledTerm (getD (termsIn (e .circuit)) n (term 0 0 0))
   -- "a number with no line, 0 included, gives no bytes"
   pub before : (room : ℕ) → fetchedBytes after 0 room ≡ []
-  pub past : (n room : ℕ) → length (termsIn c) < n → fetchedBytes after n room ≡ []
+  pub past : (n room : ℕ) → length (termsIn (e .circuit)) < n → fetchedBytes after n room ≡ []
   -- "every term once"
-  pub once : (h : Term) → occurrences h (termsIn c) ≡ cond (polynomial (c .gates) h) 1 0
+  pub once : (h : Term) → occurrences h (termsIn (e .circuit)) ≡ cond (polynomial (e .circuit .gates) h) 1 0
 
 -- ---- the lines of a listing
 
@@ -59,42 +59,28 @@ none-fetched e n room h = go (ltb room 64)
     go true = refl
     go false = h
 
--- The engine that an accepted `terms` leaves.
-abbrev listing-on : Circuit → Engine
-listing-on c = record { loaded = present c closed; listed = true }
+module _ (e : Engine) (sound : SoundCircuit (e .circuit)) (listed : e .listed ≡ true) where
+  all-terms : listing 16 (polynomial (e .circuit .gates)) ≡ termsIn (e .circuit)
+  all-terms = listing-16 (e .circuit .m) (e .circuit .gates) (sound .gates) (sound .most)
 
-module _ (c : Circuit) (sound : SoundCircuit c closed) where
-  all-terms : listing 16 (polynomial (c .gates)) ≡ termsIn c
-  all-terms = listing-16 (c .m) (c .gates) (sound .gates) (sound .most)
+  later : (n : ℕ) → laterLine e (suc n) ≡ entryBytes (entryOf (termsIn (e .circuit)) n)
+  unfolding laterLine lineNumbered
+  later n = rw listed (ap (λ (l : List Term). entryBytes (entryOf l n)) all-terms)
 
-  later : (n : ℕ) → laterLine (listing-on c) (suc n) ≡ entryBytes (entryOf (termsIn c) n)
-  unfolding laterLine lineNumbered circuitOf
-  later n = ap (λ (l : List Term). entryBytes (entryOf l n)) all-terms
-
-  line-listed : (n room : ℕ) → 64 ≤ room → n < length (termsIn c) → fetchedBytes (listing-on c) (n + 1) room ≡ spelledTerm (getD (termsIn c) n (term 0 0 0))
+  line-listed :
+      (n room : ℕ) → 64 ≤ room → n < length (termsIn (e .circuit)) →
+      fetchedBytes e (n + 1) room ≡ spelledTerm (getD (termsIn (e .circuit)) n (term 0 0 0))
   unfolding fetchedBytes entryBytes bytesOf
-  line-listed n room r h = rw (le-ltb room 64 r, add-one n, later n, entryOf-getD (termsIn c) n (term 0 0 0) h)
+  line-listed n room r h = rw (le-ltb room 64 r, add-one n, later n, entryOf-getD (termsIn (e .circuit)) n (term 0 0 0) h)
 
-  none-past : (n room : ℕ) → length (termsIn c) < n → fetchedBytes (listing-on c) n room ≡ []
+  none-before : (room : ℕ) → fetchedBytes e 0 room ≡ []
+  unfolding laterLine lineNumbered
+  none-before room = none-fetched e 0 room (rw listed)
+
+  none-past : (n room : ℕ) → length (termsIn (e .circuit)) < n → fetchedBytes e n room ≡ []
   unfolding entryBytes
   none-past zero room h = absurd (omega arith)
-  none-past (suc n) room h = none-fetched (listing-on c) (suc n) room (later n ∙ ap entryBytes (entryOf-past (termsIn c) n (omega arith)))
-
--- ---- the turn
-
-terms-turn :
-    (x : Loaded) (room : ℕ) → refusalNumber (turnOf x room (typed terms) .answer) ≡ 0 →
-    (c : Circuit) × (x ≡ present c closed) × (turnOf x room (typed terms) ≡ termsOf c closed)
-unfolding turnOf turnBy refusalOf refusalBy rowRefusal row hasCircuit circuitOf openedOf isRunning momentRefusal orElse refusedIf isClass classNumber works operandRefusal outOfRange within allInRange anyOnItself anyNotLong historyRefusal undoesMore refusalNumber accepted
-terms-turn absent room h = absurd (omega arith)
-terms-turn (present c (running o)) room h = absurd (omega arith)
-terms-turn (present c closed) room h = go (ltb (places room - length (c .gates)) 0) h
-  where
-    go :
-        (b : Bool) → refusalNumber (turnBy (cond b 13 0) (present c closed) terms .answer) ≡ 0 →
-        (d : Circuit) × (present c closed ≡ present d closed) × (turnBy (cond b 13 0) (present c closed) terms ≡ termsOf d closed)
-    go true h = absurd (omega arith)
-    go false h = (c, refl, refl)
+  none-past (suc n) room h = none-fetched e (suc n) room (later n ∙ ap entryBytes (entryOf-past (termsIn (e .circuit)) n (omega arith)))
 
 -- ---- the call
 
@@ -105,51 +91,35 @@ some-bytes line is z =
     let n : length line ≡ length (bytes "(terms)") = ap length (form-read line terms is .spells .is) in
     omega arith
 
-module _ (e : Engine) (h line : List ℕ) (sound : Sound (e .loaded)) (is : readingOf line ≡ typed terms) where
-  terms-after : (c : Circuit) → turnOf (e .loaded) (length h) (typed terms) ≡ termsOf c closed → answering e h line .after ≡ listing-on c
-  unfolding answering termsOf hasLines
-  terms-after c q = rw (is, q)
-
-  terms-bytes :
-      (c : Circuit) → turnOf (e .loaded) (length h) (typed terms) ≡ termsOf c closed →
-      answering e h line .bytes ≡ bytesOf (Answer.Terms (length (listing 16 (polynomial (c .gates)))))
-  unfolding answering termsOf
-  terms-bytes c q = rw (is, q)
-
-  answered : (c : Circuit) → e .loaded ≡ present c closed → turnOf (e .loaded) (length h) (typed terms) ≡ termsOf c closed → TermsListed e c (answering e h line .bytes) (answering e h line .after)
-  unfolding laterLine lineNumbered
-  answered c p q =
-      let s : SoundCircuit c closed = rw p at sound in
-      rw (terms-after c q)
+module _ (e : Engine) (h line : List ℕ) (sound : Sound e) (is : readingOf line ≡ typed terms) where
+  answered : answering e h line .refusal ≡ 0 → TermsListed e (answering e h line .bytes) (answering e h line .after)
+  unfolding answering turnOf turnBy accepted asksTerms row isClass classNumber
+  answered free =
+      let none : refusalOf (e .circuit) (e .opened) (length h) (typed terms) ≡ 0 = rw is at free in
+      rw (is, none)
       (record {
-        held = p;
-        kept = refl;
-        count = terms-bytes c q ∙ ap (λ (l : List Term). bytesOf (Answer.Terms (length l))) (all-terms c s);
-        line = line-listed c s;
-        before = λ room. none-fetched (listing-on c) 0 room refl;
-        past = none-past c s;
-        once = listing-once (c .m) (c .gates) (s .gates);
+        kept = (refl, refl);
+        count = ap (λ (l : List Term). bytesOf (Answer.Terms (length l))) (listing-16 (e .circuit .m) (e .circuit .gates) (sound .circuit .gates) (sound .circuit .most));
+        line = line-listed _ (sound .circuit) refl;
+        before = none-before _ (sound .circuit) refl;
+        past = none-past _ (sound .circuit) refl;
+        once = listing-once (e .circuit .m) (e .circuit .gates) (sound .circuit .gates);
       })
 
-  terms-number : answering e h line .refusal ≡ refusalNumber (turnOf (e .loaded) (length h) (typed terms) .answer)
-  unfolding answering
-  terms-number = rw is
-
   -- A line that is read as `terms` and not refused.
-  pub terms-listed :
-      (room : ℕ) → response e h line room .refusal ≡ 0 → (c : Circuit) × TermsListed e c (response e h line room .bytes) (response e h line room .after)
+  pub terms-listed : (room : ℕ) → response e h line room .refusal ≡ 0 → TermsListed e (response e h line room .bytes) (response e h line room .after)
   unfolding response tooShort
   terms-listed room = rw (ne-eqb (length line) 0 (some-bytes line is)) (go (ltb room 64))
     where
       go :
           (b : Bool) → cond b (tooShort e h) (answering e h line) .refusal ≡ 0 →
-          (c : Circuit) × TermsListed e c (cond b (tooShort e h) (answering e h line) .bytes) (cond b (tooShort e h) (answering e h line) .after)
+          TermsListed e (cond b (tooShort e h) (answering e h line) .bytes) (cond b (tooShort e h) (answering e h line) .after)
       go true n = absurd (omega arith)
-      go false n = let t = terms-turn (e .loaded) (length h) (sym terms-number ∙ n) in (t .0, answered (t .0) (t .1) (t .2))
+      go false n = answered n
 
   -- By the promise of the call: the bytes that stand in the buffer. What is fetched later is told by `bytes-fetched`.
   pub terms-called :
       (buffer : List ℕ) (r : Reply) (h' buffer' : List ℕ) → Given e h line buffer r h' buffer' → r .refusal ≡ 0 →
-      (c : Circuit) × TermsListed e c (take (r .len) buffer') (response e h line (length buffer) .after)
+      TermsListed e (take (r .len) buffer') (response e h line (length buffer) .after)
   terms-called buffer r h' buffer' g n =
       rw (bytes-given e h line buffer r h' buffer' g) (terms-listed (length buffer) (sym (g .refusal) ∙ n))

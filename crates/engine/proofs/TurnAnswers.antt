@@ -16,17 +16,19 @@ use Rattle.circuit.specs.Polynomial.{Term, Polynomial, polynomial}
 use Rattle.circuit.specs.Listing.{overPositions, triples, pairsBeside, everyTerm, among, listing}
 use Rattle.slices.specs.Totals.{amplitudeAfter, readoutCount}
 use Rattle.slices.proofs.Bounds.{amplitudeAfter-bound, readoutCount-bound}
-use Rattle.lines.specs.Typed.{amp, part, Typed, circuit, gate, layer, undo, start, opens, step, drop, terms}
+use Rattle.held.specs.Circuit.{Circuit}
+use Rattle.lines.specs.Typed.{Asked, amp, part, Typed, circuit, gate, layer, undo, start, opens, step, drop, terms}
 use Rattle.lines.specs.Spelling.{Reading, typed, refused}
 use Rattle.lines.specs.Readings.{readingOf}
 use Rattle.lines.proofs.Readings.{refused-among}
+use Rattle.answers.specs.declared.Answer.the-variants as Answer
 use Rattle.answers.specs.Answers.{bytesOf}
 use Rattle.answers.proofs.Lengths.{Modest, answer-fits}
 use Rattle.refusals.specs.Refusals.{orElse, refusedIf, momentRefusal, operandRefusal, historyRefusal, rowRefusal, refusalBy}
-use Rattle.engine.specs.Engine.{Circuit, Purpose, amplitude, readout, OpenSum, Opened, closed, running, Loaded}
+use Rattle.sums.specs.Sums.{Opened, closed, running, totalAfter, ended, stepAnswer}
+use Rattle.sums.specs.Soundness.{SoundOpened}
+use Rattle.engine.specs.Engine.{Engine, accepted, refusalOf, turnBy, turnOf}
 use Rattle.engine.specs.Soundness.{Sound}
-use Rattle.engine.specs.Response.{Turn, newCircuit, withGates, withoutLast, withNewStart, opening, total, stepped, stepOf, withoutSum, termsOf, accepted, circuitOf, openedOf, refusalOf, turnBy, turnOf}
-use Rattle.engine.proofs.TurnRefused.{positions-most}
 
 -- ---- refusals
 
@@ -41,11 +43,11 @@ refused-if-most n e true h = h
 refused-if-most n e false h = omega arith
 
 -- "A refused line gets one number from document 01's table".
-pub refusal-most : (e : Loaded) (room : ℕ) (l : List ℕ) → refusalOf e room (readingOf l) ≤ 13
+pub refusal-most : (c : Circuit) (o : Opened) (room : ℕ) (l : List ℕ) → refusalOf c o room (readingOf l) ≤ 13
 unfolding refusalOf refusalBy rowRefusal momentRefusal operandRefusal historyRefusal
-refusal-most e room l = go (readingOf l) refl
+refusal-most c o room l = go (readingOf l) refl
   where
-    go : (r : Reading) → readingOf l ≡ r → refusalOf e room r ≤ 13
+    go : (r : Reading) → readingOf l ≡ r → refusalOf c o room r ≤ 13
     go (refused n) is = let k = refused-among l n is in omega arith
     go (typed t) is =
         or-else-most 13 _ _
@@ -104,48 +106,49 @@ amplitude-most m f C s =
     three : (m : ℕ) → m + 2 * m ≡ 3 * m
     three m = omega arith
 
-total-modest : (m : ℕ) (o : OpenSum) (p : Purpose) → m ≤ 16 → Modest (total m o p)
-unfolding total readoutCount
-total-modest m o amplitude h = (sum-modest m _ h (amplitude-most m _ _ _), omega arith)
-total-modest m o readout h = (sum-modest m _ h (readoutCount-bound m _ (o .colour) _ _), omega arith)
+total-modest : (q : Asked) (c : Circuit) → c .m ≤ 16 → Modest (ended (c .m) (totalAfter q c (2 ^ c .m)))
+unfolding ended totalAfter readoutCount
+total-modest (amp C r b g) c h = (sum-modest (c .m) _ h (amplitude-most (c .m) _ _ _), omega arith)
+total-modest (part C x y) c h = (sum-modest (c .m) _ h (readoutCount-bound (c .m) _ C _ _), omega arith)
 
 -- ---- the answers
 
-either-modest : (b : Bool) (t u : Turn) → Modest (t .answer) → Modest (u .answer) → Modest (cond b t u .answer)
-either-modest true t u p q = p
-either-modest false t u p q = q
-
-step-modest : (c : Circuit) (o : Opened) (k : ℕ) → c .m ≤ 16 → Modest (stepOf c o k .answer)
-unfolding stepOf stepped
-step-modest c closed k h = tt
-step-modest c (running o) k h =
-    either-modest (ltb (o .worked + k) (2 ^ c .m)) _ _ (left-modest (c .m) (2 ^ c .m - (o .worked + k)) h (omega arith)) (total-modest (c .m) o (o .purpose) h)
-
-accepted-modest : (c : Circuit) (o : Opened) (t : Typed) → c .m ≤ 16 → Modest (accepted c o t .answer)
-unfolding accepted newCircuit withGates withoutLast withNewStart opening withoutSum termsOf
-accepted-modest c o (circuit m) h = tt
-accepted-modest c o (gate g) h = tt
-accepted-modest c o (layer gs) h = tt
-accepted-modest c o (undo k) h = tt
-accepted-modest c o (start r b g) h = tt
-accepted-modest c o (opens (amp C r b g)) h = left-modest (c .m) (2 ^ c .m) h (le-refl _)
-accepted-modest c o (opens (part C x y)) h = left-modest (c .m) (2 ^ c .m) h (le-refl _)
-accepted-modest c o (step k) h = step-modest c o k h
-accepted-modest c o drop h = tt
-accepted-modest c o terms h = omega (arith, listing-most (polynomial (c .gates)))
-
-turn-modest : (x : Loaded) (room : ℕ) (line : List ℕ) → Sound x → Modest (turnOf x room (readingOf line) .answer)
-unfolding turnOf turnBy
-turn-modest x room line s = go (readingOf line) refl
+step-modest : (m : ℕ) (o : Opened) (k : ℕ) → SoundOpened m o → Modest (stepAnswer o k)
+unfolding stepAnswer
+step-modest m closed k s = tt
+step-modest m (running o) k s = either (ltb (o .worked + k) (2 ^ o .circuit .m))
   where
-    by : (t : Typed) (n : ℕ) → n ≤ 13 → Modest (turnBy n x t .answer)
-    by t zero l = accepted-modest (circuitOf x) (openedOf x) t (positions-most x s)
+    either :
+        (b : Bool) →
+        Modest (cond b (Answer.Left (2 ^ o .circuit .m - (o .worked + k))) (ended (o .circuit .m) (totalAfter (o .asked) (o .circuit) (2 ^ o .circuit .m))))
+    either true = left-modest (o .circuit .m) (2 ^ o .circuit .m - (o .worked + k)) (s .circuit .most) (omega arith)
+    either false = total-modest (o .asked) (o .circuit) (s .circuit .most)
+
+accepted-modest : (c : Circuit) (o : Opened) (t : Typed) → c .m ≤ 16 → SoundOpened (c .m) o → Modest (accepted c o t .answer)
+unfolding accepted
+accepted-modest c o (circuit m) h s = tt
+accepted-modest c o (gate g) h s = tt
+accepted-modest c o (layer gs) h s = tt
+accepted-modest c o (undo k) h s = tt
+accepted-modest c o (start r b g) h s = tt
+accepted-modest c o (opens q) h s = left-modest (c .m) (2 ^ c .m) h (le-refl _)
+accepted-modest c o (step k) h s = step-modest (c .m) o k s
+accepted-modest c o drop h s = tt
+accepted-modest c o terms h s = omega (arith, listing-most (polynomial (c .gates)))
+
+turn-modest : (e : Engine) (room : ℕ) (line : List ℕ) → Sound e → Modest (turnOf (e .circuit) (e .opened) room (readingOf line) .answer)
+unfolding turnOf turnBy
+turn-modest e room line s = go (readingOf line) refl
+  where
+    by : (t : Typed) (n : ℕ) → n ≤ 13 → Modest (turnBy n (e .circuit) (e .opened) t .answer)
+    by t zero l = accepted-modest (e .circuit) (e .opened) t (s .circuit .most) (s .opened)
     by t (suc n) l = omega arith
 
-    go : (r : Reading) → readingOf line ≡ r → Modest (turnOf x room r .answer)
-    go (typed t) is = by t (refusalOf x room (typed t)) (rw is at (refusal-most x room line))
+    go : (r : Reading) → readingOf line ≡ r → Modest (turnOf (e .circuit) (e .opened) room r .answer)
+    go (typed t) is = by t (refusalOf (e .circuit) (e .opened) room (typed t)) (rw is at (refusal-most (e .circuit) (e .opened) room line))
     go (refused n) is = let k = refused-among line n is in omega arith
 
 -- The answer to a line has room in the 64 bytes that the engine asks for.
-pub turn-fits : (x : Loaded) (room : ℕ) (line : List ℕ) → Sound x → length (bytesOf (turnOf x room (readingOf line) .answer)) ≤ 64
-turn-fits x room line s = answer-fits _ (turn-modest x room line s)
+pub turn-fits :
+    (e : Engine) (room : ℕ) (line : List ℕ) → Sound e → length (bytesOf (turnOf (e .circuit) (e .opened) room (readingOf line) .answer)) ≤ 64
+turn-fits e room line s = answer-fits _ (turn-modest e room line s)

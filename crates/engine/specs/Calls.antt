@@ -1,73 +1,74 @@
 -- The promises of the public calls: everything that a call leaves is what these definitions give, on every path.
-use mathlib.Core.Bool.{Bool, true, false, cond}
-use mathlib.Core.List.{List, [], _++_, map}
+use mathlib.Core.Bool.{Bool, true, false, cond, _&&_}
+use mathlib.Core.List.{List, []}
 use mathlib.Core.Path.{_≡_}
-use Prim.Native.Nat.{ℕ, zero, suc, _+_}
+use Prim.Native.Nat.{ℕ, zero, suc, _≤_}
 use lib.Dec.{eqb, ltb}
-use lib.ListN.{length, take, drop}
+use lib.ListN.{length}
 use Rattle.circuit.specs.declared.Gate.{Gate}
 use Rattle.circuit.specs.declared.Entry.{Entry}
 use Rattle.circuit.specs.declared.Entry.the-variants.{Listed as ListedAt, Nothing}
 use Rattle.circuit.specs.Polynomial.{polynomial}
 use Rattle.circuit.specs.Listing.{listing, entryOf}
-use Rattle.circuit.specs.History.{codeOf}
-use Rattle.lines.specs.Spelling.{gatesIn}
+use Rattle.held.specs.Memory.{encodeCircuit, stored, Stored}
+use Rattle.lines.specs.declared.Class.the-variants.{Lists}
+use Rattle.lines.specs.Typed.{row}
+use Rattle.lines.specs.Spelling.{Reading, typed, refused, gatesIn}
 use Rattle.lines.specs.Readings.{readingOf}
-use Rattle.answers.specs.declared.Answer.{Answer}
-use Rattle.answers.specs.declared.Answer.the-variants as Answer
+use Rattle.refusals.specs.Refusals.{isClass, places}
+use Rattle.answers.specs.declared.Answer.the-variants.{Listed}
 use Rattle.answers.specs.Answers.{bytesOf, infront}
+use Rattle.sums.specs.Sums.{encodeSum}
 use Rattle.engine.specs.declared.State.{State}
 use Rattle.engine.specs.declared.Reply.{Reply}
 use Rattle.engine.specs.declared.Fetched.{Fetched}
-use Rattle.engine.specs.Engine.{Engine}
-use Rattle.engine.specs.Response.{gatesOf, turnOf}
-use Rattle.engine.specs.State.{encode, Holds}
+use Rattle.engine.specs.Engine.{Engine, refusalOf, turnOf}
+use Rattle.engine.specs.Soundness.{Sound}
 
--- The number that a call returns: that of the refusal, 0 for none.
-unfoldable pub refusalNumber : Answer → ℕ
-refusalNumber Answer.Ok = 0
-refusalNumber (Answer.Left l) = 0
-refusalNumber (Answer.Amplitude s n) = 0
-refusalNumber (Answer.Readout t n) = 0
-refusalNumber (Answer.Terms n) = 0
-refusalNumber (Answer.Listed g) = 0
-refusalNumber (Answer.Refused e) = e
+-- ---- the state of an engine
 
--- Does the answer have further lines?
-unfoldable pub hasLines : Answer → Bool
-hasLines Answer.Ok = false
-hasLines (Answer.Left l) = false
-hasLines (Answer.Amplitude s n) = false
-hasLines (Answer.Readout t n) = false
-hasLines (Answer.Terms n) = true
-hasLines (Answer.Listed g) = false
-hasLines (Answer.Refused e) = false
+unfoldable pub encode : Engine → State
+encode e = record { circuit = encodeCircuit (e .circuit); sum = encodeSum (e .opened); listed = e .listed }
 
--- The codes of gates put into the history behind those held.
-unfoldable pub stored : ℕ → List Gate → List ℕ → List ℕ
-stored held gs h = take held h ++ (map codeOf gs ++ drop (held + length gs) h)
+-- A state and a lent history are those of an engine: the history's first places hold the gates' codes, and it has room for them.
+pub record Holds (e : Engine) (s : State) (h : List ℕ) : Type 0 where
+  pub state : s ≡ encode e
+  pub codes : Stored (e .circuit .gates) h
+  pub room : length (e .circuit .gates) ≤ places (length h)
+  pub sound : Sound e
 
--- What a call does: the engine after it, the answer's bytes, the refusal's number, the history after it.
+-- ---- a line
+
+-- What a call does: the engine after it, the answer's bytes, the refusal's number (0 for none), the history after it.
 pub record Response : Type 0 where
   pub after : Engine
   pub bytes : List ℕ
   pub refusal : ℕ
   pub history : List ℕ
 
--- A line that is read: its answer is written, and it ends the fetching of earlier lines.
+-- Is the line a `terms`? Then its answer has further lines.
+unfoldable pub asksTerms : Reading → Bool
+asksTerms (typed t) = isClass Lists (row t .class)
+asksTerms (refused n) = false
+
+-- A line that is read: its answer is written, and it ends the fetching of earlier lines. The history gets the codes of its gates unless it is
+-- refused.
 unfoldable pub answering : Engine → List ℕ → List ℕ → Response
 answering e h line =
-    let t = turnOf (e .loaded) (length h) (readingOf line) in
+    let r = readingOf line in
+    let n = refusalOf (e .circuit) (e .opened) (length h) r in
+    let t = turnOf (e .circuit) (e .opened) (length h) r in
     record {
-      after = record { loaded = t .after; listed = hasLines (t .answer) };
+      after = record { circuit = t .circuit; opened = t .opened; listed = eqb n 0 && asksTerms r };
       bytes = bytesOf (t .answer);
-      refusal = refusalNumber (t .answer);
-      history = cond (eqb (refusalNumber (t .answer)) 0) (stored (length (gatesOf (e .loaded))) (gatesIn (readingOf line)) h) h;
+      refusal = n;
+      history = cond (eqb n 0) (stored (length (e .circuit .gates)) (gatesIn r) h) h;
     }
 
 -- Refusal 1: "shorter than 64 bytes; it is then not written". The line ends the fetching of earlier lines all the same.
 unfoldable pub tooShort : Engine → List ℕ → Response
-tooShort e h = record { after = record { loaded = e .loaded; listed = false }; bytes = []; refusal = 1; history = h }
+tooShort e h =
+    record { after = record { circuit = e .circuit; opened = e .opened; listed = false }; bytes = []; refusal = 1; history = h }
 
 -- "A line of no bytes is skipped before any place is tried: no answer, nothing changed."
 unfoldable pub skipped : Engine → List ℕ → Response
@@ -92,7 +93,7 @@ Answered s h line buffer r h' buffer' = (e : Engine) → Holds e s h → Given e
 
 -- The bytes of an entry of the listing.
 unfoldable pub entryBytes : Entry → List ℕ
-entryBytes (ListedAt g) = bytesOf (Answer.Listed g)
+entryBytes (ListedAt g) = bytesOf (Listed g)
 entryBytes Nothing = []
 
 -- "Later lines of the last answer are fetched by number, the line after the first being 1 .. a number with no line, 0 included, gives no bytes."
@@ -101,7 +102,7 @@ lineNumbered gs zero = []
 lineNumbered gs (suc n) = entryBytes (entryOf (listing 16 (polynomial gs)) n)
 
 unfoldable pub laterLine : Engine → ℕ → List ℕ
-laterLine e n = cond (e .listed) (lineNumbered (gatesOf (e .loaded)) n) []
+laterLine e n = cond (e .listed) (lineNumbered (e .circuit .gates) n) []
 
 -- "each fetch tries the buffer's length by refusal 1 and changes nothing else"
 unfoldable pub fetchedBytes : Engine → ℕ → ℕ → List ℕ

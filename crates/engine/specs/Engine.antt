@@ -1,47 +1,61 @@
--- The abstract engine: what a session is at any moment (document 01, "Bracket lines").
-use mathlib.Core.Bool.{Bool, false}
-use mathlib.Core.List.{List}
-use Prim.Native.Nat.{ℕ}
-use Rattle.circuit.specs.declared.Colour.{Colour}
-use Rattle.circuit.specs.declared.Gate.{Gate}
-use Rattle.circuit.specs.Colours.{Three}
+-- The engine: what a session is at any moment, what a line does to it, and what it is answered (document 01, "Bracket lines", "Where a line is
+-- turned back").
+use mathlib.Core.Bool.{Bool, false, not}
+use mathlib.Core.List.{[], _∷_}
+use Prim.Native.Nat.{ℕ, zero, suc, _^_}
+use lib.Dec.{eqb}
+use lib.ListN.{length}
+use Rattle.circuit.specs.Polynomial.{polynomial}
+use Rattle.circuit.specs.Listing.{listing}
+use Rattle.held.specs.Circuit.{Circuit, newCircuit, withGates, withoutLast, withNewStart}
+use Rattle.lines.specs.Typed.{Typed, circuit, gate, layer, undo, start, opens, step, drop, terms}
+use Rattle.lines.specs.Spelling.{Reading, typed, refused}
+use Rattle.refusals.specs.Refusals.{refusalBy}
+use Rattle.answers.specs.declared.Answer.{Answer}
+use Rattle.answers.specs.declared.Answer.the-variants.{Ok, Left, Terms, Refused}
+use Rattle.sums.specs.Sums.{Opened, closed, isRunning, opening, stepped, stepAnswer}
 
--- A string for each colour, each as the number that it is with position 1 the highest digit.
-abbrev pub Strings : Type 0
-Strings = Three ℕ
-
--- What is held of a circuit: m, its gates in order, the starting string.
-pub record Circuit : Type 0 where
-  pub m : ℕ
-  pub gates : List Gate
-  pub start : Strings
-
--- What a sum is opened for: "amp" for an output string, sliced on C; "part" with C unread.
-pub data Purpose : Type 0 where
-  amplitude : Purpose
-  readout : Purpose
-
--- An open sum: the gates and the output string, start added, as they were when it was opened, and the slices worked.
-pub record OpenSum : Type 0 where
-  pub purpose : Purpose
-  pub colour : Colour
-  pub output : Strings
-  pub gates : List Gate
-  pub worked : ℕ
-
-pub data Opened : Type 0 where
-  closed : Opened
-  running : OpenSum → Opened
-
-pub data Loaded : Type 0 where
-  absent : Loaded
-  present : Circuit → Opened → Loaded
-
--- The circuit, if there is one, with the open sum; and whether the lines of a listing can be fetched.
+-- The circuit, the open sum, and whether the lines of a listing can be fetched.
 pub record Engine : Type 0 where
-  pub loaded : Loaded
+  pub circuit : Circuit
+  pub opened : Opened
   pub listed : Bool
 
 -- "a fresh engine (no circuit)"
 unfoldable pub freshEngine : Engine
-freshEngine = record { loaded = absent; listed = false }
+freshEngine = record { circuit = newCircuit 0; opened = closed; listed = false }
+
+-- What a line leaves, and its answer.
+pub record Turn : Type 0 where
+  pub circuit : Circuit
+  pub opened : Opened
+  pub answer : Answer
+
+abbrev pub gives : Circuit → Opened → Answer → Turn
+gives c o a = record { circuit = c; opened = o; answer = a }
+
+-- What a form does that no place turns back. "`(left L)` when a sum is opened", all 2^m slices; `terms` is answered with the number of terms, and
+-- their lines are fetched.
+unfoldable pub accepted : Circuit → Opened → Typed → Turn
+accepted c o (circuit m) = gives (newCircuit m) closed Ok
+accepted c o (gate g) = gives (withGates (g ∷ []) c) o Ok
+accepted c o (layer gs) = gives (withGates gs c) o Ok
+accepted c o (undo k) = gives (withoutLast k c) o Ok
+accepted c o (start r b g) = gives (withNewStart (record { red = r; blue = b; green = g }) c) o Ok
+accepted c o (opens q) = gives c (opening c q) (Left (2 ^ c .m))
+accepted c o (step k) = gives c (stepped o k) (stepAnswer o k)
+accepted c o drop = gives c closed Ok
+accepted c o terms = gives c o (Terms (length (listing 16 (polynomial (c .gates)))))
+
+-- The refusal that a line gets, 0 for none. `room` is the lent history's length.
+unfoldable pub refusalOf : Circuit → Opened → ℕ → Reading → ℕ
+refusalOf c o room r = refusalBy (not (eqb (c .m) 0)) (isRunning o) (c .m) room (length (c .gates)) r
+
+-- A refusal "leaves circuit, history, start and open sum the same".
+unfoldable pub turnBy : ℕ → Circuit → Opened → Typed → Turn
+turnBy zero c o t = accepted c o t
+turnBy (suc n) c o t = gives c o (Refused (suc n))
+
+unfoldable pub turnOf : Circuit → Opened → ℕ → Reading → Turn
+turnOf c o room (typed t) = turnBy (refusalOf c o room (typed t)) c o t
+turnOf c o room (refused n) = gives c o (Refused n)

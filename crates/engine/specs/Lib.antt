@@ -1,6 +1,4 @@
 pub mod Engine
 pub mod Soundness
-pub mod Response
-pub mod State
 pub mod Calls
 pub mod Turns

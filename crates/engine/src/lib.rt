@@ -1,47 +1,21 @@
 // The engine: its state, the lent history, and the public calls.
 ghost use mathlib.Core.Path.{_≡_};
 ghost use Rattle.engine.specs.Engine.{freshEngine};
-ghost use Rattle.engine.specs.State.{encode, noSum};
-ghost use Rattle.engine.specs.Calls.{Answered, FetchAnswered, refusalNumber, hasLines};
+ghost use Rattle.engine.specs.Calls.{encode, Answered, FetchAnswered};
+ghost use Rattle.engine.specs.Turns.{refusalNumber, hasLines};
 use answers::Answer;
 use circuit::Entry;
+use held::Held;
+use sums::Sum;
 
-mod gates;
-mod sums;
+mod layers;
 mod turns;
 
 // A shorter answer buffer is refusal 1: no answer has more bytes.
 const LEAST_BUFFER: usize = 64;
 
-// A string for each colour, as numbers with position 1 the highest digit.
-pub struct Numbers {
-    pub red: u32,
-    pub blue: u32,
-    pub green: u32,
-}
-
-pub enum Kind {
-    Closed,
-    Amplitude,
-    Readout,
-}
-
-// The open sum: the slices worked, what exactly these add up to, and the table that they are read from.
-pub struct Sum {
-    pub kind: Kind,
-    pub worked: usize,
-    pub amplitude: i64,
-    pub count: u64,
-    pub table: [u64; 102],
-}
-
 pub struct State {
-    // 0 where there is no circuit yet.
-    pub m: usize,
-    // How many gates the history holds.
-    pub held: usize,
-    pub start: Numbers,
-    pub polynomial: [u32; 289],
+    pub circuit: Held,
     pub sum: Sum,
     // Can the lines of a listing be fetched?
     pub listed: bool,
@@ -66,32 +40,13 @@ pub struct Fetched {
     pub refusal: u8,
 }
 
-fn no_sum() -> Sum
-    ensures { λ r. ⌜ r ≡ noSum ⌝ }
-{
-    Sum {
-        kind: Kind::Closed,
-        worked: 0,
-        amplitude: 0,
-        count: 0,
-        table: [0u64; 102],
-    }
-}
-
 // An engine with no circuit.
 pub fn fresh() -> State
     ensures { λ r. ⌜ r ≡ encode freshEngine ⌝ }
 {
     State {
-        m: 0,
-        held: 0,
-        start: Numbers {
-            red: 0,
-            blue: 0,
-            green: 0,
-        },
-        polynomial: circuit::polynomial::empty(),
-        sum: no_sum(),
+        circuit: held::empty(0),
+        sum: sums::none(),
         listed: false,
     }
 }
@@ -161,7 +116,7 @@ pub fn fetch(state: State, number: usize, buffer: &mut [u8]) -> Fetched
     if !state.listed {
         return Fetched { len: 0, refusal: 0 };
     }
-    let words = state.polynomial;
+    let words = state.circuit.polynomial;
     let Entry::Listed(gate) = circuit::listing::entry(words, number - 1) else {
         return Fetched { len: 0, refusal: 0 };
     };

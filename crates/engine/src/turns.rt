@@ -1,55 +1,33 @@
 // A line's turn: refused, or taken as its form asks.
-ghost use mathlib.Core.Bool.{Bool};
-ghost use mathlib.Core.List.{[], _∷_, map};
+ghost use mathlib.Core.List.{[], _∷_};
 ghost use mathlib.Core.Path.{_≡_};
-ghost use Prim.Native.Nat.{ℕ, _≤_};
-ghost use lib.ListN.{length, take};
+ghost use Prim.Native.Nat.{ℕ, _≤_, _^_};
+ghost use lib.ListN.{length};
+ghost use Rattle.gf2.specs.Digits.{highFirst};
 ghost use Rattle.circuit.specs.declared.Colour.{Colour};
 ghost use Rattle.circuit.specs.declared.Gate.the-variants as Gate;
 ghost use Rattle.circuit.specs.declared.Spot.{Spot};
-ghost use Rattle.circuit.specs.History.{codeOf};
+ghost use Rattle.circuit.specs.Sum.{Basis};
+ghost use Rattle.held.specs.Circuit.{newCircuit, withoutLast, withNewStart};
+ghost use Rattle.held.specs.Memory.{numbersOf, Stored};
 ghost use Rattle.text.specs.declared.Bits.{Bits};
 ghost use Rattle.lines.specs.Gates.{layerGates};
 ghost use Rattle.lines.specs.Held.{heldReading};
 ghost use Rattle.lines.specs.Spelling.{typed};
 ghost use Rattle.lines.specs.Readings.{readingOf};
-ghost use Rattle.lines.specs.Typed.{Typed};
-ghost use Rattle.engine.specs.Engine.{amplitude, readout, Circuit, Opened, present, Engine};
-ghost use Rattle.engine.specs.Soundness.{SoundCircuit};
-ghost use Rattle.engine.specs.Response.{newCircuit, withoutLast, withNewStart, opening, besideUnread, stepOf, withoutSum, termsOf};
-ghost use Rattle.engine.specs.State.{encodeLoaded, Holds};
-ghost use Rattle.engine.specs.Turns.{isOpen, Done, Does, Builds, Free, Taken, Turned};
-use crate::Kind;
-use crate::Numbers;
+ghost use Rattle.lines.specs.Typed.{Typed, amp, part, opens, step, drop, terms};
+ghost use Rattle.sums.specs.Sums.{Opened, closed, encodeSum};
+ghost use Rattle.engine.specs.Engine.{Engine, gives, accepted};
+ghost use Rattle.engine.specs.Soundness.{Sound};
+ghost use Rattle.engine.specs.Calls.{encode, Holds};
+ghost use Rattle.engine.specs.Turns.{Done, Does, Builds, Free, Taken, Turned};
 use crate::State;
 use crate::Turn;
 use answers::Answer;
 use circuit::Gate;
+use held::Numbers;
 use lines::Form;
-
-// A new, empty circuit of `m` positions.
-fn new_circuit(m: usize, listed: bool) -> State
-    ensures { λ r. ⌜ r ≡ encodeLoaded (newCircuit m .after) listed ⌝ }
-{
-    let mut next = crate::fresh();
-    next.m = m;
-    next.listed = listed;
-    next
-}
-
-fn set_start(state: State, r: u32, b: u32, g: u32) -> State
-    ensures { λ s. ⌜ ((c : Circuit) (o : Opened) (l : Bool) → state ≡ encodeLoaded (present c o) l →
-        s ≡ encodeLoaded (withNewStart c o (record { red = r; blue = b; green = g }) .after) l) ⌝ }
-{
-    let mut next = state;
-    let start = Numbers {
-        red: r,
-        blue: b,
-        green: g,
-    };
-    next.start = start;
-    next
-}
+use sums::Sum;
 
 // A line that is no form of a stage is given back with the refusal that it has.
 fn turned_back(state: State, form: Form) -> Turn
@@ -67,23 +45,20 @@ fn turned_back(state: State, form: Form) -> Turn
     }
 }
 
-fn is_open(kind: Kind) -> bool
-    ensures { λ r. ⌜ r ≡ isOpen kind ⌝ }
-{
-    if let Kind::Closed = kind { false } else { true }
-}
-
 // Each stage takes its own form apart; a line that is none of its own is given back at once.
 
 fn circuit_turn(state: State, form: Form) -> Turn
-    ensures { λ t. ⌜ ((m : ℕ) → form ≡ Form.Circuit m → (t .state ≡ encodeLoaded (newCircuit m .after) (state .listed)) ×
-        (t .answer ≡ newCircuit m .answer)) ⌝ }
+    ensures { λ t. ⌜ ((m : ℕ) → form ≡ Form.Circuit m → Done (gives (newCircuit m) closed Answer.Ok) (state .listed) (t .state) (t .answer)) ⌝ }
 {
     let Form::Circuit(m) = form else {
         return turned_back(state, form);
     };
     Turn {
-        state: new_circuit(m, state.listed),
+        state: State {
+            circuit: held::empty(m),
+            sum: sums::none(),
+            listed: state.listed,
+        },
         answer: Answer::Ok,
     }
 }
@@ -92,10 +67,13 @@ fn circuit_turn(state: State, form: Form) -> Turn
 fn with_gate(state: State, history: &mut [u32], g: Gate) -> Turn
     ensures { λ t. ⌜ Builds (g ∷ []) state (now (history .entry)) (t .state) (t .answer) (now (history .exit)) ⌝ }
 {
-    let next = crate::gates::take_gate(state, history, g);
+    let circuit = state.circuit;
+    let next = held::take_gate(circuit, history, g);
+    let mut after = state;
+    after.circuit = next;
     let answer = Answer::Ok;
     Turn {
-        state: next,
+        state: after,
         answer,
     }
 }
@@ -138,87 +116,135 @@ fn layer_turn(state: State, history: &mut [u32], line: &[u8], form: Form) -> Tur
     let Form::Layer(n) = form else {
         return turned_back(state, form);
     };
+    let circuit = state.circuit;
+    let next = crate::layers::take_layer(circuit, history, line, n);
+    let mut after = state;
+    after.circuit = next;
     Turn {
-        state: crate::gates::take_layer(state, history, line, n),
+        state: after,
         answer: Answer::Ok,
     }
 }
 
 fn undo_turn(state: State, history: &[u32], form: Form) -> Turn
-    ensures { λ t. ⌜ ((k : ℕ) (c : Circuit) (o : Opened) (l : Bool) → form ≡ Form.Undo k → SoundCircuit c o → k ≤ length (c .gates) →
-        take (length (c .gates)) (now (history .entry)) ≡ map codeOf (c .gates) → state ≡ encodeLoaded (present c o) l →
-        Done (withoutLast c o k) l (t .state) (t .answer)) ⌝ }
+    ensures { λ t. ⌜ ((k : ℕ) → form ≡ Form.Undo k → (e : Engine) → Holds e state (now (history .entry)) →
+        Done (gives (withoutLast k (e .circuit)) (e .opened) Answer.Ok) (e .listed) (t .state) (t .answer)) ⌝ }
 {
     let Form::Undo(k) = form else {
         return turned_back(state, form);
     };
+    let circuit = state.circuit;
+    let next = held::undo(circuit, history, k);
+    let mut after = state;
+    after.circuit = next;
     Turn {
-        state: crate::gates::undo(state, history, k),
+        state: after,
         answer: Answer::Ok,
     }
 }
 
 fn start_turn(state: State, form: Form) -> Turn
-    ensures { λ t. ⌜ ((r b g : Bits) → form ≡ Form.Start r b g →
-        Does (λ c o. withNewStart c o (record { red = r .value; blue = b .value; green = g .value })) state (t .state) (t .answer)) ⌝ }
+    ensures { λ t. ⌜ ((r b g : Bits) (s : Basis) → form ≡ Form.Start r b g →
+        record { red = r .value; blue = b .value; green = g .value } ≡ numbersOf s →
+        Does (λ c o. gives (withNewStart s c) o Answer.Ok) state (t .state) (t .answer)) ⌝ }
 {
     let Form::Start(r, b, g) = form else {
         return turned_back(state, form);
     };
+    let circuit = state.circuit;
+    let start = Numbers {
+        red: r.value,
+        blue: b.value,
+        green: g.value,
+    };
+    let next = held::set_start(circuit, start);
+    let mut after = state;
+    after.circuit = next;
     Turn {
-        state: set_start(state, r.value, b.value, g.value),
+        state: after,
         answer: Answer::Ok,
+    }
+}
+
+// A sum just opened: all its slices are left.
+fn with_sum(state: State, sum: Sum) -> Turn
+    ensures { λ t. ⌜ ((e : Engine) (o : Opened) → Sound e → state ≡ encode e → sum ≡ encodeSum o →
+        Done (gives (e .circuit) o (Answer.Left (2 ^ e .circuit .m))) (e .listed) (t .state) (t .answer)) ⌝ }
+{
+    let m = state.circuit.m;
+    let mut after = state;
+    after.sum = sum;
+    Turn {
+        state: after,
+        answer: Answer::Left(sums::slice_count(m) as u64),
     }
 }
 
 fn amplitude_turn(state: State, form: Form) -> Turn
     ensures { λ t. ⌜ ((C : Colour) (r b g : Bits) → form ≡ Form.Amp C r b g →
-        Does (λ c o. opening c amplitude C (record { red = r .value; blue = b .value; green = g .value })) state (t .state) (t .answer)) ⌝ }
+        Does (λ c o. accepted c o (opens (amp C (highFirst (c .m) (r .value)) (highFirst (c .m) (b .value)) (highFirst (c .m) (g .value)))))
+        state (t .state) (t .answer)) ⌝ }
 {
     let Form::Amp(colour, r, b, g) = form else {
         return turned_back(state, form);
     };
-    crate::sums::open_amplitude(state, colour, r.value, b.value, g.value)
+    let circuit = state.circuit;
+    with_sum(
+        state,
+        sums::open_amplitude(circuit, colour, r.value, b.value, g.value),
+    )
 }
 
 fn readout_turn(state: State, form: Form) -> Turn
     ensures { λ t. ⌜ ((C : Colour) (x y : Bits) → form ≡ Form.Part C x y →
-        Does (λ c o. opening c readout C (besideUnread C (x .value) (y .value))) state (t .state) (t .answer)) ⌝ }
+        Does (λ c o. accepted c o (opens (part C (highFirst (c .m) (x .value)) (highFirst (c .m) (y .value))))) state (t .state) (t .answer)) ⌝ }
 {
     let Form::Part(colour, x, y) = form else {
         return turned_back(state, form);
     };
-    crate::sums::open_readout(state, colour, x.value, y.value)
+    let circuit = state.circuit;
+    with_sum(state, sums::open_readout(circuit, colour, x.value, y.value))
 }
 
 fn step_turn(state: State, form: Form) -> Turn
-    ensures { λ t. ⌜ ((k : ℕ) → form ≡ Form.Step k → Does (λ c o. stepOf c o k) state (t .state) (t .answer)) ⌝ }
+    ensures { λ t. ⌜ ((k : ℕ) → form ≡ Form.Step k → Does (λ c o. accepted c o (step k)) state (t .state) (t .answer)) ⌝ }
 {
     let Form::Step(k) = form else {
         return turned_back(state, form);
     };
-    crate::sums::step(state, k)
+    let sum = state.sum;
+    let stepped = sums::step(sum, state.circuit.m, k);
+    let next = stepped.sum;
+    let answer = stepped.answer;
+    let mut after = state;
+    after.sum = next;
+    Turn {
+        state: after,
+        answer,
+    }
 }
 
 fn drop_turn(state: State, form: Form) -> Turn
-    ensures { λ t. ⌜ (form ≡ Form.Drop → Does (λ c o. withoutSum c) state (t .state) (t .answer)) ⌝ }
+    ensures { λ t. ⌜ (form ≡ Form.Drop → Does (λ c o. accepted c o drop) state (t .state) (t .answer)) ⌝ }
 {
     let Form::Drop = form else {
         return turned_back(state, form);
     };
+    let mut after = state;
+    after.sum = sums::none();
     Turn {
-        state: crate::sums::close(state),
+        state: after,
         answer: Answer::Ok,
     }
 }
 
 fn terms_turn(state: State, form: Form) -> Turn
-    ensures { λ t. ⌜ (form ≡ Form.Terms → Does termsOf state (t .state) (t .answer)) ⌝ }
+    ensures { λ t. ⌜ (form ≡ Form.Terms → Does (λ c o. accepted c o terms) state (t .state) (t .answer)) ⌝ }
 {
     let Form::Terms = form else {
         return turned_back(state, form);
     };
-    let words = state.polynomial;
+    let words = state.circuit.polynomial;
     let count = circuit::listing::count(words);
     Turn {
         state,
@@ -254,10 +280,17 @@ pub(crate) fn turn(state: State, history: &mut [u32], line: &[u8]) -> Turn
     ensures { λ t. ⌜ ((e : Engine) → Holds e state (now (history .entry)) →
         Turned e (now (history .entry)) (readingOf (now (line .entry))) (t .state) (t .answer) (now (history .exit))) ⌝ }
 {
-    let m = state.m;
+    let circuit = state.circuit;
+    let m = circuit.m;
     let sum = state.sum;
-    let kind = sum.kind;
-    let tried = refusals::try_line(m != 0, is_open(kind), m, history.len(), state.held, line);
+    let tried = refusals::try_line(
+        m != 0,
+        sums::is_open(sum),
+        m,
+        history.len(),
+        circuit.count,
+        line,
+    );
     let n = tried.refusal;
     if n != 0 {
         return Turn {

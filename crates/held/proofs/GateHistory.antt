@@ -41,6 +41,13 @@ module _ (held : ℕ) (gs : List Gate) (h : List ℕ) where
       rw (drop-cons h (held + length gs) 0 k, ← append-assoc (take held h) (map codeOf gs) (x ∷ rest), set-at front x rest (codeOf g) (held + length gs) (length-front (omega arith)))
       (rw (n, map-append codeOf gs (g ∷ []), append-assoc (map codeOf gs) (codeOf g ∷ []) rest) (append-assoc (take held h) (map codeOf gs) (codeOf g ∷ rest)))
 
+-- One gate put behind those held is one place written.
+pub stored-one : (held : ℕ) (g : Gate) (h : List ℕ) → held < length h → set h held (codeOf g) ≡ stored held (g ∷ []) h
+stored-one held g h k =
+    ap (λ (l : List ℕ). set l held (codeOf g)) (sym (stored-none held h))
+    ∙ ap (λ (i : ℕ). set (stored held [] h) i (codeOf g)) (sym (add-zero held))
+    ∙ stored-snoc held [] h g (omega arith)
+
 -- ---- gates held
 
 pub codes-within : (gs : List Gate) (h : List ℕ) → Stored gs h → length gs ≤ length h

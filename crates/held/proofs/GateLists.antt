@@ -38,7 +38,7 @@ last-gate gs some =
 
 -- ---- more gates and fewer
 
-both : (a b : Bool) → a ≡ true → b ≡ true → a && b ≡ true
+pub both : (a b : Bool) → a ≡ true → b ≡ true → a && b ≡ true
 both true b h k = k
 both false b h k = h
 

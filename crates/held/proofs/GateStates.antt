@@ -8,7 +8,6 @@ use lib.Dec.{ltb}
 use lib.ListN.{length, getD, take, set, length-append, length-take}
 use lib.Seq.{take-all, take-take, length-take-le}
 use borrow.Author.Tests.{lt-ltb, le-ltb}
-use native.Mathlib.Nat.{add-zero}
 use Rattle.circuit.specs.declared.Gate.{Gate}
 use Rattle.circuit.specs.Sum.{isGate, areGates}
 use Rattle.circuit.specs.Polynomial.{Polynomial, empty, applied, polynomial}
@@ -19,7 +18,7 @@ use Rattle.circuit.proofs.HistoryCodes.{gateOf-codeOf}
 use Rattle.held.specs.declared.Held.{Held}
 use Rattle.held.specs.Circuit.{Circuit, withGates, withoutLast}
 use Rattle.held.specs.Memory.{encodeCircuit, stored, Stored, hasRoom, withGate, withCode}
-use Rattle.held.proofs.GateHistory.{stored-none, stored-snoc, codes-within, codes-front, last-code}
+use Rattle.held.proofs.GateHistory.{stored-one, codes-within, last-code}
 use Rattle.held.proofs.GateLists.{noGate, gate-at, last-gate}
 
 -- A state with another polynomial and another number of gates.
@@ -98,11 +97,8 @@ module _ (c : Circuit) (s : Held) (is : s ≡ encodeCircuit c) where
     pub code-written : isGate 16 g ≡ true → s .count < length h → set h (s .count) (codeOf g) ≡ withCode g c h
     unfolding withCode
     code-written v k =
-        let n : s .count ≡ length (c .gates) + 0 = held-gates ∙ sym (add-zero (length (c .gates))) in
         rw (roomy v k)
-        (ap (λ (l : List ℕ). set l (s .count) (codeOf g)) (sym (stored-none (length (c .gates)) h))
-        ∙ ap (λ (i : ℕ). set (stored (length (c .gates)) [] h) i (codeOf g)) n
-        ∙ stored-snoc (length (c .gates)) [] h g (omega (arith, held-gates)))
+        (ap (λ (i : ℕ). set h i (codeOf g)) held-gates ∙ stored-one (length (c .gates)) g h (omega (arith, held-gates)))
 
   -- ---- the last gate taken back
 

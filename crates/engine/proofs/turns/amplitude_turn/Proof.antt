@@ -1,6 +1,8 @@
 -- The form is `amp`, whose turn opens an amplitude.
 use Rattle.engine.proofs.TurnLaws.{own-form}
 use mathlib.Core.Path.{_≡_}
+use Rattle.engine.specs.Engine.{accepted}
+use Rattle.engine.proofs.TurnLaws.{circuit-held}
 use borrow.Author.Needs.{needs}
 use Rattle.engine.proofs.turns.amplitude_turn.Statement.{statement}
 use Rattle.engine.proofs.turns.amplitude_turn.Tie as tie
@@ -17,17 +19,21 @@ returns c C r b g e = own-form (c .before .before .args .form) _ e tt (c .before
 open-amplitude-requires : tie.Need-open-amplitude-requires
 open-amplitude-requires c κs = search needs
 
+with-sum-requires : tie.Need-with-sum-requires
+with-sum-requires c κs = search needs
+
 returns-2 : tie.Need-returns-2
-returns-2 c C r b g e k o l s h =
-    let form = c .before .before .form .given in
+unfolding accepted
+returns-2 c C r b g told e sound is =
+    let form = c .before .before .before .before .form .given in
     let colour : form .0 .0 ≡ C = cc (form .1) in
     let red : form .0 .1 .0 ≡ r = cc (form .1) in
     let blue : form .0 .1 .1 .0 ≡ b = cc (form .1) in
     let green : form .0 .1 .1 .1 .0 ≡ g = cc (form .1) in
-    let d = c .open-amplitude .ensures k o l s h in
-    rw (← colour, ← red, ← blue, ← green) (record { state = d .0; answer = d .1 })
+    rw (← colour, ← red, ← blue, ← green)
+    (c .with-sum .ensures e _ sound is (c .before .open-amplitude .ensures (e .circuit) (circuit-held e _ is) (sound .circuit)))
 
 pub amplitude-turn-spec : {M : Type 1} → statement M
 amplitude-turn-spec =
     tie.close
-    (tie.spec enum-known-form turned-back-requires returns open-amplitude-requires returns-2)
+    (tie.spec enum-known-form turned-back-requires returns open-amplitude-requires with-sum-requires returns-2)

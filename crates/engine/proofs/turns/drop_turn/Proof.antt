@@ -1,7 +1,8 @@
 -- The form is `drop`, whose turn closes the sum.
 use mathlib.Core.Path.{refl}
-use Rattle.engine.specs.Response.{withoutSum}
 use Rattle.engine.proofs.TurnLaws.{own-form}
+use Rattle.engine.specs.Engine.{accepted}
+use Rattle.engine.proofs.TurnLaws.{with-sum}
 use borrow.Author.Needs.{needs}
 use Rattle.engine.proofs.turns.drop_turn.Statement.{statement}
 use Rattle.engine.proofs.turns.drop_turn.Tie as tie
@@ -15,12 +16,12 @@ turned-back-requires c κs = search needs
 returns : tie.Need-returns
 returns c e = own-form (c .before .before .args .form) _ e tt (c .before .match .keys2)
 
-close-requires : tie.Need-close-requires
-close-requires c κs = search needs
+none-requires : tie.Need-none-requires
+none-requires c κs = search needs
 
 returns-2 : tie.Need-returns-2
-unfolding withoutSum
-returns-2 c e k o l s h = record { state = c .close .ensures k o l h; answer = refl }
+unfolding accepted
+returns-2 c told e sound is = record { state = with-sum e _ is _ _ (c .none .ensures); answer = refl }
 
 pub drop-turn-spec : {M : Type 1} → statement M
-drop-turn-spec = tie.close (tie.spec enum-told turned-back-requires returns close-requires returns-2)
+drop-turn-spec = tie.close (tie.spec enum-told turned-back-requires returns none-requires returns-2)

@@ -3,9 +3,7 @@ use mathlib.Core.Path.{refl, sym, _∙_}
 use native.Mathlib.Omega.{arith}
 use denote.Ref.{now}
 use Rattle.lines.proofs.LayerLine.{layer-count}
-use Rattle.engine.specs.Response.{withGates}
-use Rattle.engine.specs.Turns.{extended}
-use Rattle.engine.proofs.TurnLaws.{own-form}
+use Rattle.engine.proofs.TurnLaws.{circuit-held, with-circuit, own-form}
 use borrow.Author.Needs.{needs}
 use Rattle.engine.proofs.turns.layer_turn.Statement.{statement}
 use Rattle.engine.proofs.turns.layer_turn.Tie as tie
@@ -20,19 +18,18 @@ returns : tie.Need-returns
 returns c n e = own-form (c .before .before .before .before .args .form) _ e tt (c .before .match .keys2)
 
 take-layer-requires : tie.Need-take-layer-requires
-take-layer-requires c κs = sym (c .before .before .before .before .before .before .pre) ∙ c .before .before .form .given .1
+take-layer-requires c κs = sym (c .before .before .before .before .before .before .before .pre) ∙ c .before .before .before .form .given .1
 
 same-length : tie.Need-same-length
 same-length c = search needs
 
 returns-2 : tie.Need-returns-2
-unfolding withGates extended
-returns-2 c n e k o l is valid room =
-    let start = c .before .before .before .before .before .before .before .before .before in
-    let form = c .before .before .before .before .before .form .given in
+returns-2 c n told e is valid room =
+    let start = c .before .before .before .before .before .before .before .before .before .before in
+    let form = c .before .before .before .before .before .before .form .given in
     let count = layer-count (now (start .args .line)) (form .0 .0) (sym (start .pre) ∙ form .1) in
-    let t = c .before .before .take-layer .ensures k o l is valid (omega arith) in
-    record { state = t .0; answer = refl; history = t .1 }
+    let t = c .before .before .take-layer .ensures (e .circuit) (circuit-held e _ is) valid (omega arith) in
+    record { turn = record { state = with-circuit e _ is _ _ (t .0); answer = refl }; history = t .1 }
 
 pub layer-turn-spec : {M : Type 1} → statement M
 layer-turn-spec = tie.close (tie.spec enum-known-form turned-back-requires returns take-layer-requires same-length returns-2)

@@ -1,6 +1,8 @@
 -- The form is `part`, whose turn opens a readout count.
 use Rattle.engine.proofs.TurnLaws.{own-form}
 use mathlib.Core.Path.{_≡_}
+use Rattle.engine.specs.Engine.{accepted}
+use Rattle.engine.proofs.TurnLaws.{circuit-held}
 use borrow.Author.Needs.{needs}
 use Rattle.engine.proofs.turns.readout_turn.Statement.{statement}
 use Rattle.engine.proofs.turns.readout_turn.Tie as tie
@@ -17,16 +19,20 @@ returns c C x y e = own-form (c .before .before .args .form) _ e tt (c .before .
 open-readout-requires : tie.Need-open-readout-requires
 open-readout-requires c κs = search needs
 
+with-sum-requires : tie.Need-with-sum-requires
+with-sum-requires c κs = search needs
+
 returns-2 : tie.Need-returns-2
-returns-2 c C x y e k o l s h =
-    let form = c .before .before .form .given in
+unfolding accepted
+returns-2 c C x y told e sound is =
+    let form = c .before .before .before .before .form .given in
     let colour : form .0 .0 ≡ C = cc (form .1) in
     let first : form .0 .1 .0 ≡ x = cc (form .1) in
     let second : form .0 .1 .1 .0 ≡ y = cc (form .1) in
-    let d = c .open-readout .ensures k o l s h in
-    rw (← colour, ← first, ← second) (record { state = d .0; answer = d .1 })
+    rw (← colour, ← first, ← second)
+    (c .with-sum .ensures e _ sound is (c .before .open-readout .ensures (e .circuit) (circuit-held e _ is) (sound .circuit)))
 
 pub readout-turn-spec : {M : Type 1} → statement M
 readout-turn-spec =
     tie.close
-    (tie.spec enum-known-form turned-back-requires returns open-readout-requires returns-2)
+    (tie.spec enum-known-form turned-back-requires returns open-readout-requires with-sum-requires returns-2)

@@ -1,7 +1,7 @@
 -- The form is `start`, whose turn changes the start alone.
 use Rattle.engine.proofs.TurnLaws.{own-form}
 use mathlib.Core.Path.{_≡_, refl}
-use Rattle.engine.specs.Response.{withNewStart}
+use Rattle.engine.proofs.TurnLaws.{circuit-held, with-circuit}
 use borrow.Author.Needs.{needs}
 use Rattle.engine.proofs.turns.start_turn.Statement.{statement}
 use Rattle.engine.proofs.turns.start_turn.Tie as tie
@@ -13,19 +13,21 @@ turned-back-requires : tie.Need-turned-back-requires
 turned-back-requires c κs = search needs
 
 returns : tie.Need-returns
-returns c r b g e = own-form (c .before .before .args .form) _ e tt (c .before .match .keys2)
+returns c r b g s₀ e = own-form (c .before .before .args .form) _ e tt (c .before .match .keys2)
 
 set-start-requires : tie.Need-set-start-requires
 set-start-requires c κs = search needs
 
 returns-2 : tie.Need-returns-2
-unfolding withNewStart
-returns-2 c r b g e k o l s h =
-    let form = c .before .before .form .given in
+returns-2 c r b g s₀ told numbers e sound is =
+    let form = c .before .before .before .form .given in
     let red : form .0 .0 ≡ r = cc (form .1) in
     let blue : form .0 .1 .0 ≡ b = cc (form .1) in
     let green : form .0 .1 .1 .0 ≡ g = cc (form .1) in
-    rw (← red, ← blue, ← green) (record { state = c .set-start .ensures k o l h; answer = refl })
+    record {
+      state = with-circuit e _ is _ _ (c .set-start .ensures (e .circuit) s₀ (circuit-held e _ is) (rw (← red, ← blue, ← green) at numbers));
+      answer = refl;
+    }
 
 pub start-turn-spec : {M : Type 1} → statement M
 start-turn-spec =

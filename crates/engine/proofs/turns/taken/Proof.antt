@@ -117,13 +117,13 @@ returns-6 : tie.Need-returns-6
 returns-6 c e t is f =
     let start = c .before .before .before .before .before .before in
     let told = c .before .before .enum-told6 .given .1 in
-    undo-taken e _ _ _ _ (held-told _ _ _ t (start .pre) is told) f (λ k o l s b h q. c .undo-turn .ensures _ k o l told s b h q)
+    undo-taken e _ _ _ _ (held-told _ _ _ t (start .pre) is told) f (c .undo-turn .ensures _ told)
 
 returns-7 : tie.Need-returns-7
 returns-7 c e t is f =
     let start = c .before .before .before .before .before in
     let told = c .before .enum-told7 .given .1 in
-    start-taken e _ _ _ _ (held-told _ _ _ t (start .pre) is told) f (c .start-turn .ensures _ _ _ told)
+    start-taken e _ _ _ _ (held-told _ _ _ t (start .pre) is told) f (λ s₀. c .start-turn .ensures _ _ _ s₀ told)
 
 returns-8 : tie.Need-returns-8
 returns-8 c e t is f =

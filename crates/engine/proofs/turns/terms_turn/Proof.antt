@@ -2,10 +2,11 @@
 use mathlib.Core.Path.{ap}
 use Rattle.circuit.specs.Polynomial.{polynomial}
 use Rattle.answers.specs.declared.Answer.the-variants as Answer
-use Rattle.engine.specs.Response.{termsOf}
 use Rattle.engine.specs.declared.State.{State}
-use Rattle.engine.specs.State.{encodeLoaded}
 use Rattle.engine.proofs.TurnLaws.{own-form}
+use Rattle.held.specs.Memory.{encodeCircuit}
+use Rattle.engine.specs.Engine.{accepted}
+use Rattle.engine.proofs.TurnLaws.{circuit-held}
 use borrow.Author.Needs.{needs}
 use Rattle.engine.proofs.turns.terms_turn.Statement.{statement}
 use Rattle.engine.proofs.turns.terms_turn.Tie as tie
@@ -23,9 +24,9 @@ count-requires : tie.Need-count-requires
 count-requires c κs = search needs
 
 returns-2 : tie.Need-returns-2
-unfolding termsOf encodeLoaded
-returns-2 c e k o l s h =
-    record { state = h; answer = ap Answer.Terms (c .count .ensures (polynomial (k .gates)) (ap (λ (t : State). t .polynomial) h)) }
+unfolding accepted encodeCircuit
+returns-2 c told e sound is =
+    record { state = is; answer = ap Answer.Terms (c .count .ensures (polynomial (e .circuit .gates)) (ap (λ k. k .polynomial) (circuit-held e _ is))) }
 
 pub terms-turn-spec : {M : Type 1} → statement M
 terms-turn-spec = tie.close (tie.spec enum-told turned-back-requires returns count-requires returns-2)

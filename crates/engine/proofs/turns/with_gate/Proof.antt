@@ -1,8 +1,7 @@
 -- One gate is taken, in the state and in the history, and the answer is `(ok)`.
 use mathlib.Core.Path.{refl}
-use Rattle.engine.specs.Response.{withGates}
-use Rattle.engine.specs.Turns.{extended}
 use Rattle.engine.proofs.GateTaken.{one-taken}
+use Rattle.engine.proofs.TurnLaws.{circuit-held, with-circuit}
 use borrow.Author.Needs.{needs}
 use Rattle.engine.proofs.turns.with_gate.Statement.{statement}
 use Rattle.engine.proofs.turns.with_gate.Tie as tie
@@ -14,11 +13,10 @@ same-length : tie.Need-same-length
 same-length c = search needs
 
 returns : tie.Need-returns
-unfolding withGates extended
-returns c k o l is valid room =
+returns c e is valid room =
     let taken = c .before .before .take-gate .ensures in
-    let t = one-taken k o l _ _ _ _ _ (taken .0) (taken .1) is valid room in
-    record { state = t .0; answer = refl; history = t .1 }
+    let t = one-taken (e .circuit) _ _ _ _ _ (taken .0) (taken .1) (circuit-held e _ is) valid room in
+    record { turn = record { state = with-circuit e _ is _ _ (t .0); answer = refl }; history = t .1 }
 
 pub with-gate-spec : {M : Type 1} → statement M
 with-gate-spec = tie.close (tie.spec take-gate-requires same-length returns)

@@ -1,7 +1,7 @@
 -- After i turns the layer's first i gates are taken, in the state and in the history, and the others stand in the line from `at` on.
 use Prim.Native.Nat.{ℕ, suc, _+_, _-_, _≤_, _<_}
 use mathlib.Core.Path.{_≡_, refl, ap, sym, _∙_}
-use mathlib.Core.Bool.{Bool, true}
+use mathlib.Core.Bool.{true}
 use mathlib.Core.List.{List, _∷_}
 use native.Mathlib.Numerals.{add-one}
 use native.Mathlib.Omega.{arith}
@@ -14,21 +14,21 @@ use Rattle.lines.specs.declared.GateAt.the-variants.{Read as GateRead}
 use Rattle.lines.specs.Gates.{layerGates, gatesAt, layerGateAt}
 use Rattle.lines.proofs.LayerLine.{layer-count}
 use Rattle.lines.proofs.LayerWalk.{layer-begins, gate-next, gates-end}
-use Rattle.engine.specs.Engine.{Circuit, Opened, present}
-use Rattle.engine.specs.State.{encodeLoaded}
-use Rattle.engine.proofs.GateLists.{noGate, gate-at, first-gates}
+use Rattle.held.specs.Circuit.{Circuit}
+use Rattle.held.specs.Memory.{encodeCircuit}
+use Rattle.held.proofs.GateLists.{noGate, gate-at, first-gates}
 use Rattle.engine.proofs.GateTaken.{TakenOnto, none-taken, one-more}
 use borrow.Author.Needs.{needs}
-use Rattle.engine.proofs.gates.take_layer.Statement.{statement}
-use Rattle.engine.proofs.gates.take_layer.Tie as tie
+use Rattle.engine.proofs.layers.take_layer.Statement.{statement}
+use Rattle.engine.proofs.layers.take_layer.Tie as tie
 
 abbrev Inv-loop : tie.InvT-loop
 Inv-loop history₀ line n next₀ at₀ i₀ history next at i =
     (gatesAt line at ≡ drop i (layerGates line)) ×
     (i ≤ n) ×
     (length history ≡ length history₀) ×
-    ((c : Circuit) (o : Opened) (b : Bool) → next₀ ≡ encodeLoaded (present c o) b → areGates 16 (layerGates line) ≡ true → length (c .gates) + n ≤ length history₀
-    → TakenOnto c o b history₀ (take i (layerGates line)) next history)
+    ((c : Circuit) → next₀ ≡ encodeCircuit c → areGates 16 (layerGates line) ≡ true → length (c .gates) + n ≤ length history₀
+    → TakenOnto c history₀ (take i (layerGates line)) next history)
 
 -- The gate read is the layer's next one, and the others stand behind it.
 gate-met : (l : List ℕ) (at i : ℕ) → i < length (layerGates l) → gatesAt l at ≡ drop i (layerGates l) → (g : Gate) (next : ℕ)
@@ -41,7 +41,7 @@ abbrev μ-loop : tie.MeasureT-loop
 μ-loop history₀ line n next₀ at₀ i₀ history next at i = n - i
 
 loop-holds : tie.Need-loop-holds Inv-loop μ-loop
-loop-holds c = (layer-begins _, search needs, refl, λ k o b is v room. none-taken k o b _ _ is)
+loop-holds c = (layer-begins _, search needs, refl, λ k is v room. none-taken k _ _ is)
 
 layer-gate-requires : tie.Need-layer-gate-requires Inv-loop μ-loop
 layer-gate-requires c κs = search needs
@@ -84,10 +84,10 @@ loop-again c =
       w .1,
       search needs,
       c .before .before .take-gate .kept .1 .0 ∙ loop .inv .2,
-      λ k o b is v room.
+      λ k is v room.
           rw (first-gates (layerGates l) (loop .i) (omega arith), ← w .0)
-          (one-more k o b (now (start .args .history)) (take (loop .i) (layerGates l)) (read .0 .0) (loop .next) _ (loop .history) _
-          (loop .inv .3 k o b is v room)
+          (one-more k (now (start .args .history)) (take (loop .i) (layerGates l)) (read .0 .0) (loop .next) _ (loop .history) _
+          (loop .inv .3 k is v room)
           (rw (w .0) (gate-at 16 (layerGates l) (loop .i) v (omega arith)))
           (rw (length-take-le (loop .i) (layerGates l) (omega arith)) (omega arith))
           (c .before .before .take-gate .ensures .0)
@@ -103,7 +103,7 @@ returns-2 c =
     let l = now (start .args .line) in
     let count = layer-count l (start .args .n) (start .pre) in
     let e : c .before .loop .i ≡ length (layerGates l) = omega arith in
-    λ k o b is v room. rw (← take-all (c .before .loop .i) (layerGates l) (omega arith)) (c .before .loop .inv .3 k o b is v room)
+    λ k is v room. rw (← take-all (c .before .loop .i) (layerGates l) (omega arith)) (c .before .loop .inv .3 k is v room)
 
 pub take-layer-spec : {M : Type 1} → statement M
 take-layer-spec =

@@ -1,0 +1,39 @@
+// The gates of a layer, taken one by one as they stand in the line.
+ghost use mathlib.Core.Bool.{true};
+ghost use mathlib.Core.Path.{_≡_};
+ghost use Prim.Native.Nat.{_+_, _≤_};
+ghost use lib.ListN.{length};
+ghost use Rattle.circuit.specs.Sum.{areGates};
+ghost use Rattle.held.specs.Circuit.{Circuit, withGates};
+ghost use Rattle.held.specs.Memory.{encodeCircuit, stored};
+ghost use Rattle.lines.specs.Gates.{layerGates};
+ghost use Rattle.lines.specs.Held.{heldReading};
+ghost use Rattle.lines.specs.Readings.{readingOf};
+ghost use Rattle.lines.specs.declared.Form.the-variants as Form;
+use held::Held;
+use lines::GateAt;
+
+// Where the first gate of a layer stands: behind "(layer".
+const FIRST_GATE: usize = 6;
+
+// From left to right.
+pub(crate) fn take_layer(held: Held, history: &mut [u32], line: &[u8], n: usize) -> Held
+    requires { ⌜ heldReading (readingOf (now line)) ≡ Form.Layer n ⌝ }
+    ensures { λ r. ⌜ ((c : Circuit) → held ≡ encodeCircuit c → areGates 16 (layerGates (now (line .entry))) ≡ true →
+        length (c .gates) + n ≤ length (now (history .entry)) →
+        (r ≡ encodeCircuit (withGates (layerGates (now (line .entry))) c)) ×
+        (now (history .exit) ≡ stored (length (c .gates)) (layerGates (now (line .entry))) (now (history .entry)))) ⌝ }
+{
+    let mut next = held;
+    let mut at = FIRST_GATE;
+    let mut i = 0;
+    while i < n {
+        let GateAt::Read { gate, next: after } = lines::gates::layer_gate(line, at) else {
+            return next;
+        };
+        next = held::take_gate(next, &mut *history, gate);
+        at = after;
+        i += 1;
+    }
+    next
+}
