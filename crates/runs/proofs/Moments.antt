@@ -7,13 +7,14 @@ use lib.ListN.{length}
 use Rattle.text.specs.Spelling.{begins, sameBytes}
 use Rattle.lines.specs.Readings.{readingOf}
 use Rattle.engine.specs.declared.State.{State}
-use Rattle.engine.specs.Engine.{Loaded, Engine, freshEngine}
-use Rattle.engine.specs.State.{encode, Holds}
-use Rattle.engine.specs.Calls.{response, Given}
+use Rattle.held.specs.Circuit.{Circuit}
+use Rattle.sums.specs.Sums.{Opened}
+use Rattle.engine.specs.Engine.{Engine, freshEngine}
+use Rattle.engine.specs.Calls.{encode, Holds, response, Given}
 use Rattle.engine.proofs.Keeping.{fresh-held, held-on}
 use Rattle.engine.proofs.Outcomes.{Outcome, silent, spoken, outcome, bytes-given, Shown, shown, bytes-fetched}
 use Rattle.runs.specs.Runs.{LineCall, FetchCall, Call, line, fetch, Kept, Run, GivenFrom, answerOf, shownBy, isOk, isLeft, Log, emptyLog, logged, logFrom, logOf}
-use Rattle.runs.proofs.Following.{bookOf, Follows, loggedBy, logged-by, logged-quiet, followed}
+use Rattle.runs.proofs.Following.{Follows, loggedBy, logged-by, logged-quiet, followed}
 
 -- Calls that keep their promises do so.
 kept-given : (e : Engine) (s : State) (h : List ℕ) (calls : List Call) → Holds e s h → Kept s h calls → GivenFrom e h calls
@@ -34,11 +35,11 @@ pub record Moment (g : Log) (calls : List Call) : Type 0 where
   pub state : State
   pub history : List ℕ
   pub held : Holds engine state history
-  pub follows : Follows (engine .loaded) g
+  pub follows : Follows (engine .circuit) (engine .opened) g
   pub given : GivenFrom engine history calls
 
 pub beginning : (h : List ℕ) (calls : List Call) → GivenFrom freshEngine h calls → Moment emptyLog calls
-unfolding emptyLog freshEngine bookOf
+unfolding emptyLog freshEngine
 beginning h calls r =
     record { engine = freshEngine; state = encode freshEngine; history = h; held = fresh-held h; follows = record { book = refl; sum = tt }; given = r }
 
@@ -48,7 +49,7 @@ beginning h calls r =
 pub record Done (e : Engine) (h : List ℕ) (c : LineCall) : Type 0 where
   pub after : Engine
   pub held : Holds after (c .reply .state) (c .history)
-  pub outcome : Outcome (length h) (c .line) (e .loaded) (after .loaded) (answerOf c)
+  pub outcome : Outcome (length h) (c .line) (e .circuit) (e .opened) (after .circuit) (after .opened) (answerOf c)
 
 unfoldable pub done : (g : Log) (c : LineCall) (cs : List Call) (m : Moment g (line c ∷ cs)) → Done (m .engine) (m .history) c
 unfolding answerOf
@@ -64,8 +65,8 @@ done g c cs m =
 
 -- The log follows any outcome.
 pub outcome-followed :
-    {room : ℕ} {l : List ℕ} {e e' : Loaded} {a : List ℕ} (g : Log) → Outcome room l e e' a → Follows e g →
-    Follows e' (loggedBy g (readingOf l) a)
+    {room : ℕ} {l : List ℕ} {c c' : Circuit} {o o' : Opened} {a : List ℕ} (g : Log) → Outcome room l c o c' o' a → Follows c o g →
+    Follows c' o' (loggedBy g (readingOf l) a)
 unfolding isOk sameBytes isLeft begins
 outcome-followed {l = l} g silent t = rw (logged-quiet g (readingOf l) [] refl refl) t
 outcome-followed g (spoken v) t = followed g v t
@@ -79,7 +80,7 @@ next g (line c) cs m =
       state = c .reply .state;
       history = c .history;
       held = d .held;
-      follows = subst (Follows (d .after .loaded)) (sym (logged-by g c)) (outcome-followed g (d .outcome) (m .follows));
+      follows = subst (Follows (d .after .circuit) (d .after .opened)) (sym (logged-by g c)) (outcome-followed g (d .outcome) (m .follows));
       given = m .given .1;
     }
 next g (fetch f) cs m =

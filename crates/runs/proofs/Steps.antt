@@ -11,25 +11,25 @@ use Rattle.gf2.specs.Strings.{BitString}
 use Rattle.circuit.specs.declared.Colour.{Colour}
 use Rattle.text.specs.Spelling.{sameBytes, begins}
 use Rattle.lines.specs.declared.Class.the-variants as Class
-use Rattle.lines.specs.Typed.{part, opens, step, row}
+use Rattle.lines.specs.Typed.{Asked, amp, part, opens, step, row}
 use Rattle.lines.specs.Spelling.{Reading, typed, refused}
 use Rattle.lines.specs.Readings.{readingOf}
 use Rattle.refusals.specs.Refusals.{classNumber, isClass}
 use Rattle.answers.specs.declared.Answer.{Answer}
 use Rattle.answers.specs.declared.Answer.the-variants as Answer
 use Rattle.answers.specs.Answers.{bytesOf}
-use Rattle.engine.specs.Engine.{Circuit, Purpose, amplitude, readout, OpenSum, running, Loaded, present}
-use Rattle.engine.specs.Response.{openedOf, isRunning, total}
-use Rattle.engine.proofs.Views.{one, View, refuses, creates, adds, takesBack, starts, opensAmplitude, opensReadout, worksOn, finishes, drops, lists}
+use Rattle.held.specs.Circuit.{Circuit}
+use Rattle.sums.specs.Sums.{OpenSum, Opened, running, isRunning, totalAfter, ended}
+use Rattle.engine.proofs.Views.{one, View, refuses, creates, adds, takesBack, starts, opensSum, worksOn, finishes, drops, lists}
 use Rattle.engine.proofs.Passing.{or-none}
 use Rattle.engine.proofs.Outcomes.{Outcome, silent, spoken}
-use Rattle.runs.specs.Runs.{LineCall, FetchCall, Call, line, fetch, answerOf, Entered, holds, isOk, isLeft, isAccepted, stepsOf, isDropped, stepsIn, dropsIn, Log, logged, IsReadout}
-use Rattle.runs.proofs.Following.{enteredOf, bookOf, holds-one}
+use Rattle.runs.specs.Runs.{LineCall, FetchCall, Call, line, fetch, answerOf, isOk, isLeft, isAccepted, stepsOf, isDropped, stepsIn, dropsIn, Log, logged, IsReadout}
 use Rattle.runs.proofs.Moments.{Moment, done, next}
 
 -- A readout of a circuit of m positions is open and has worked through w slices.
-data Working (m w : ℕ) : Loaded → Type 0 where
-  working : {c : Circuit} {o : OpenSum} → o .purpose ≡ readout → c .m ≡ m → o .worked ≡ w → Working m w (present c (running o))
+data Working (m w : ℕ) : Opened → Type 0 where
+  working :
+      {o : OpenSum} {C : Colour} {x y : BitString} → o .asked ≡ part C x y → o .circuit .m ≡ m → o .worked ≡ w → Working m w (running o)
 
 -- A line that is not accepted adds nothing.
 steps-quiet : (r : Reading) (a : List ℕ) → isAccepted a ≡ false → stepsOf r a ≡ 0
@@ -38,95 +38,81 @@ steps-quiet (typed t) a h = rw (h, and-false (isClass Class.Steps (row t .class)
 steps-quiet (refused n) a h = refl
 
 -- A total is an accepted answer.
-total-accepted : (m : ℕ) (o : OpenSum) (p : Purpose) → isAccepted (bytesOf (total m o p)) ≡ true
-unfolding total bytesOf isAccepted begins
-total-accepted m o amplitude = refl
-total-accepted m o readout = refl
+total-accepted : (q : Asked) (c : Circuit) (w : ℕ) → isAccepted (bytesOf (ended (c .m) (totalAfter q c w))) ≡ true
+unfolding totalAfter ended bytesOf isAccepted begins
+total-accepted (amp C r b g) c w = refl
+total-accepted (part C x y) c w = refl
 
-quiet-working : {m w : ℕ} {e : Loaded} (r : Reading) (a : List ℕ) → isAccepted a ≡ false → Working m w e → Working m (w + stepsOf r a) e
+quiet-working : {m w : ℕ} {o : Opened} (r : Reading) (a : List ℕ) → isAccepted a ≡ false → Working m w o → Working m (w + stepsOf r a) o
 quiet-working {m} {w} r a h k = rw (steps-quiet r a h, add-zero w) k
 
-working-open : {m w : ℕ} {e : Loaded} → Working m w e → isRunning (openedOf e) ≡ true
-unfolding openedOf isRunning
+working-open : {m w : ℕ} {o : Opened} → Working m w o → isRunning o ≡ true
+unfolding isRunning
 working-open (working p q r) = refl
 
 -- ---- one line
 
--- The sum is opened by an accepted `part`.
-begins-working :
-    {room : ℕ} {e e' : Loaded} {r : Reading} {a : Answer} (C : Colour) (x y : BitString) (b : Entered) → View room e r e' a →
-    r ≡ typed (opens (part C x y)) → isLeft (bytesOf a) ≡ true → bookOf e ≡ holds b → Working (b .m) 0 e'
-unfolding bytesOf isLeft begins bookOf enteredOf
-begins-working C x y b refuses h k q = absurd (false≢true k)
-begins-working C x y b (creates i low high) h _ _ = never (cc)
-begins-working C x y b (adds g v w) h k q = absurd (false≢true k)
-begins-working C x y b takesBack h _ _ = never (cc)
-begins-working C x y b (starts r s t) h _ _ = never (cc)
-begins-working C x y b (opensAmplitude r s t) h _ _ = never (cc)
-begins-working C x y b (opensReadout s t) h k q = working refl (ap (λ (z : Entered). z .m) (holds-one q)) refl
-begins-working C x y b (worksOn w) h _ _ = never (cc)
-begins-working C x y b (finishes w) h _ _ = never (cc)
-begins-working C x y b drops h _ _ = never (cc)
-begins-working C x y b lists h _ _ = never (cc)
+-- What an accepted `part` opens: there is a circuit, and no slice of its sum is worked.
+record Begun (c : Circuit) (o : Opened) : Type 0 where
+  some : 1 ≤ c .m
+  sum : Working (c .m) 0 o
 
--- There the book holds a circuit.
-begins-entered :
-    {room : ℕ} {e e' : Loaded} {r : Reading} {a : Answer} (C : Colour) (x y : BitString) → View room e r e' a →
-    r ≡ typed (opens (part C x y)) → isLeft (bytesOf a) ≡ true → (b : Entered) × (bookOf e ≡ holds b)
-unfolding bytesOf isLeft begins bookOf
-begins-entered C x y refuses h k = absurd (false≢true k)
-begins-entered C x y (creates i low high) h _ = never (cc)
-begins-entered C x y (adds g v w) h k = absurd (false≢true k)
-begins-entered C x y takesBack h _ = never (cc)
-begins-entered C x y (starts r s t) h _ = never (cc)
-begins-entered C x y (opensAmplitude r s t) h _ = never (cc)
-begins-entered C x y (opensReadout {c = c} s t) h k = (enteredOf c, refl)
-begins-entered C x y (worksOn w) h _ = never (cc)
-begins-entered C x y (finishes w) h _ = never (cc)
-begins-entered C x y drops h _ = never (cc)
-begins-entered C x y lists h _ = never (cc)
+begins-working :
+    {room : ℕ} {c c' : Circuit} {o o' : Opened} {r : Reading} {a : Answer} (C : Colour) (x y : BitString) → View room c o r c' o' a →
+    r ≡ typed (opens (part C x y)) → isLeft (bytesOf a) ≡ true → Begun c o'
+unfolding bytesOf isLeft begins
+begins-working C x y refuses h k = absurd (false≢true k)
+begins-working C x y (creates i low high) h _ = never (cc)
+begins-working C x y (adds g v w) h k = absurd (false≢true k)
+begins-working C x y takesBack h _ = never (cc)
+begins-working C x y (starts long) h _ = never (cc)
+begins-working C x y (opensSum {q = q} some long) h k =
+    let is : q ≡ part C x y = cc in
+    record { some = some; sum = working is refl refl }
+begins-working C x y (worksOn w) h _ = never (cc)
+begins-working C x y (finishes w) h _ = never (cc)
+begins-working C x y drops h _ = never (cc)
+begins-working C x y lists h _ = never (cc)
 
 -- A line leaves the sum open while its slices are not all worked.
 works-on :
-    {room m w : ℕ} {e e' : Loaded} {r : Reading} {a : Answer} → View room e r e' a → Working m w e →
-    isDropped r (bytesOf a) ≡ false → w + stepsOf r (bytesOf a) < 2 ^ m → Working m (w + stepsOf r (bytesOf a)) e'
-unfolding bytesOf isOk sameBytes isAccepted begins stepsOf isDropped row isClass classNumber openedOf isRunning
+    {room m w : ℕ} {c c' : Circuit} {o o' : Opened} {r : Reading} {a : Answer} → View room c o r c' o' a → Working m w o →
+    isDropped r (bytesOf a) ≡ false → w + stepsOf r (bytesOf a) < 2 ^ m → Working m (w + stepsOf r (bytesOf a)) o'
+unfolding bytesOf isOk sameBytes isAccepted begins stepsOf isDropped row isClass classNumber isRunning
 works-on {r = r} (refuses {n = n}) s d h = quiet-working r (bytesOf (Answer.Refused (suc n))) refl s
 works-on (creates i low high) s d h = absurd (false≢true (sym i ∙ working-open s))
 works-on (adds g v n) s d h = absurd (false≢true (working-open s))
 works-on takesBack s d h = absurd (false≢true (working-open s))
-works-on (starts x y z) s d h = absurd (false≢true (working-open s))
-works-on (opensAmplitude x y z) s d h = absurd (false≢true (working-open s))
-works-on (opensReadout x y) s d h = absurd (false≢true (working-open s))
+works-on (starts long) s d h = absurd (false≢true (working-open s))
+works-on (opensSum some long) s d h = absurd (false≢true (working-open s))
 works-on (worksOn {k = k} n) (working p q r) d h = working p q (ap (λ (v : ℕ). v + k) r)
-works-on (finishes {c = c} {o = o} {k = k} n) (working p q r) d h =
-    let i : o .worked + k < 2 ^ c .m = rw (total-accepted (c .m) o (o .purpose), sym q, sym r) at h in
+works-on (finishes {o = o} {k = k} n) (working p q r) d h =
+    let i : o .worked + k < 2 ^ o .circuit .m = rw (total-accepted (o .asked) (o .circuit) (2 ^ o .circuit .m), sym q, sym r) at h in
     absurd (omega arith)
 works-on drops s d h = absurd (true≢false d)
 works-on lists s d h = absurd (false≢true (working-open s))
 
-total-readout : (m : ℕ) (o : OpenSum) (p : Purpose) → p ≡ readout → IsReadout (bytesOf (total m o p))
-unfolding total
-total-readout m o amplitude h = never (cc)
-total-readout m o readout h = record { t = _; n = 3 * m; is = refl }
+total-readout : (q : Asked) (c : Circuit) (w : ℕ) (C : Colour) (x y : BitString) → q ≡ part C x y → IsReadout (bytesOf (ended (c .m) (totalAfter q c w)))
+unfolding totalAfter ended
+total-readout (amp D r b g) c w C x y h = never (cc)
+total-readout (part D u v) c w C x y h = record { t = _; n = 3 * c .m; is = refl }
 
 -- The step that reaches the end answers the count.
 ends-working :
-    {room m w : ℕ} {e e' : Loaded} {r : Reading} {a : Answer} (k : ℕ) → View room e r e' a → Working m w e → r ≡ typed (step k) →
+    {room m w : ℕ} {c c' : Circuit} {o o' : Opened} {r : Reading} {a : Answer} (k : ℕ) → View room c o r c' o' a → Working m w o → r ≡ typed (step k) →
     isAccepted (bytesOf a) ≡ true → 2 ^ m ≤ w + k → IsReadout (bytesOf a)
-unfolding bytesOf isAccepted begins openedOf isRunning
+unfolding bytesOf isAccepted begins isRunning
 ends-working k refuses s e d h = absurd (false≢true d)
 ends-working k (creates i low high) _ e _ _ = never (cc)
 ends-working k (adds g v n) s e d h = absurd (false≢true (working-open s))
 ends-working k takesBack _ e _ _ = never (cc)
-ends-working k (starts x y z) _ e _ _ = never (cc)
-ends-working k (opensAmplitude x y z) _ e _ _ = never (cc)
-ends-working k (opensReadout x y) _ e _ _ = never (cc)
-ends-working k (worksOn {c = c} {o = o} {k = j} n) (working p q r) e d h =
+ends-working k (starts long) _ e _ _ = never (cc)
+ends-working k (opensSum some long) _ e _ _ = never (cc)
+ends-working k (worksOn {o = o} {k = j} n) (working p q r) e d h =
     let i : j ≡ k = cc in
-    let u : 2 ^ c .m ≤ o .worked + k = rw (q, r) h in
+    let u : 2 ^ o .circuit .m ≤ o .worked + k = rw (q, r) h in
     absurd (omega arith)
-ends-working k (finishes {c = c} {o = o} n) (working p q r) e d h = total-readout (c .m) o (o .purpose) p
+ends-working k (finishes {o = o} n) (working {C = C} {x = x} {y = y} p q r) e d h = total-readout (o .asked) (o .circuit) _ C x y p
 ends-working k drops _ e _ _ = never (cc)
 ends-working k lists _ e _ _ = never (cc)
 
@@ -136,12 +122,12 @@ ends-working k lists _ e _ _ = never (cc)
 record Underway (m w : ℕ) (calls : List Call) : Type 0 where
   log : Log
   moment : Moment log calls
-  sum : Working m w (moment .engine .loaded)
+  sum : Working m w (moment .engine .opened)
 
 -- A call that is no accepted `drop`, and steps that do not reach the end.
 outcome-works :
-    {room m w : ℕ} {l : List ℕ} {e e' : Loaded} {a : List ℕ} → Outcome room l e e' a → Working m w e →
-    isDropped (readingOf l) a ≡ false → w + stepsOf (readingOf l) a < 2 ^ m → Working m (w + stepsOf (readingOf l) a) e'
+    {room m w : ℕ} {l : List ℕ} {c c' : Circuit} {o o' : Opened} {a : List ℕ} → Outcome room l c o c' o' a → Working m w o →
+    isDropped (readingOf l) a ≡ false → w + stepsOf (readingOf l) a < 2 ^ m → Working m (w + stepsOf (readingOf l) a) o'
 unfolding isAccepted begins
 outcome-works {l = l} silent s d h = quiet-working (readingOf l) [] refl s
 outcome-works (spoken v) s d h = works-on v s d h
@@ -179,49 +165,40 @@ calls-work {m} {w} (line c ∷ cs) calls u d h =
 calls-work (fetch f ∷ cs) calls u d h = calls-work cs calls (fetch-works f (cs ++ calls) u) d h
 
 outcome-begins :
-    {room : ℕ} {l : List ℕ} {e e' : Loaded} {a : List ℕ} (C : Colour) (x y : BitString) (b : Entered) → Outcome room l e e' a →
-    readingOf l ≡ typed (opens (part C x y)) → isLeft a ≡ true → bookOf e ≡ holds b → Working (b .m) 0 e'
+    {room : ℕ} {l : List ℕ} {c c' : Circuit} {o o' : Opened} {a : List ℕ} (C : Colour) (x y : BitString) → Outcome room l c o c' o' a →
+    readingOf l ≡ typed (opens (part C x y)) → isLeft a ≡ true → Begun c o'
 unfolding isLeft begins
-outcome-begins C x y b silent h k q = absurd (false≢true k)
-outcome-begins C x y b (spoken v) h k q = begins-working C x y b v h k q
-
-outcome-entered :
-    {room : ℕ} {l : List ℕ} {e e' : Loaded} {a : List ℕ} (C : Colour) (x y : BitString) → Outcome room l e e' a →
-    readingOf l ≡ typed (opens (part C x y)) → isLeft a ≡ true → (b : Entered) × (bookOf e ≡ holds b)
-unfolding isLeft begins
-outcome-entered C x y silent h k = absurd (false≢true k)
-outcome-entered C x y (spoken v) h k = begins-entered C x y v h k
+outcome-begins C x y silent h k = absurd (false≢true k)
+outcome-begins C x y (spoken v) h k = begins-working C x y v h k
 
 -- An accepted `part` finds a circuit in the book.
 pub part-entered :
     (g : Log) (p : LineCall) (after : List Call) (C : Colour) (x y : BitString) → Moment g (line p ∷ after) →
-    readingOf (p .line) ≡ typed (opens (part C x y)) → isLeft (answerOf p) ≡ true → (b : Entered) × (g .book ≡ holds b)
-part-entered g p after C x y m asked left =
-    let found = outcome-entered C x y (done g p after m .outcome) asked left in
-    (found .0, m .follows .book ∙ found .1)
+    readingOf (p .line) ≡ typed (opens (part C x y)) → isLeft (answerOf p) ≡ true → 1 ≤ g .book .m
+part-entered g p after C x y m asked left = rw (m .follows .book) (outcome-begins C x y (done g p after m .outcome) asked left .some)
 
 outcome-ends :
-    {room m w : ℕ} {l : List ℕ} {e e' : Loaded} {a : List ℕ} (k : ℕ) → Outcome room l e e' a → Working m w e → readingOf l ≡ typed (step k) →
-    isAccepted a ≡ true → 2 ^ m ≤ w + k → IsReadout a
+    {room m w : ℕ} {l : List ℕ} {c c' : Circuit} {o o' : Opened} {a : List ℕ} (k : ℕ) → Outcome room l c o c' o' a → Working m w o →
+    readingOf l ≡ typed (step k) → isAccepted a ≡ true → 2 ^ m ≤ w + k → IsReadout a
 unfolding isAccepted begins
 outcome-ends k silent s e d h = absurd (false≢true d)
 outcome-ends k (spoken v) s e d h = ends-working k v s e d h
 
 -- From the moment of the `part` on.
 pub steps-end :
-    (g : Log) (p : LineCall) (between : List Call) (c : LineCall) (after : List Call) (C : Colour) (x y : BitString) (b : Entered) (k : ℕ) →
-    Moment g (line p ∷ (between ++ (line c ∷ after))) → readingOf (p .line) ≡ typed (opens (part C x y)) → isLeft (answerOf p) ≡ true → g .book ≡ holds b →
-    dropsIn between ≡ false → stepsIn between < 2 ^ b .m → readingOf (c .line) ≡ typed (step k) → isAccepted (answerOf c) ≡ true →
-    2 ^ b .m ≤ stepsIn between + k → IsReadout (answerOf c)
+    (g : Log) (p : LineCall) (between : List Call) (c : LineCall) (after : List Call) (C : Colour) (x y : BitString) (k : ℕ) →
+    Moment g (line p ∷ (between ++ (line c ∷ after))) → readingOf (p .line) ≡ typed (opens (part C x y)) → isLeft (answerOf p) ≡ true →
+    dropsIn between ≡ false → stepsIn between < 2 ^ g .book .m → readingOf (c .line) ≡ typed (step k) → isAccepted (answerOf c) ≡ true →
+    2 ^ g .book .m ≤ stepsIn between + k → IsReadout (answerOf c)
 unfolding next
-steps-end g p between c after C x y b k m asked left book none few read taken all =
+steps-end g p between c after C x y k m asked left none few read taken all =
     let rest = between ++ (line c ∷ after) in
     let d = done g p rest m in
-    let opened : Underway (b .m) 0 rest =
+    let opened : Underway (g .book .m) 0 rest =
     record {
       log = logged g (line p);
       moment = next g (line p) rest m;
-      sum = outcome-begins C x y b (d .outcome) asked left (sym (m .follows .book) ∙ book);
+      sum = rw (m .follows .book) (outcome-begins C x y (d .outcome) asked left .sum);
     } in
     let u = calls-work between (line c ∷ after) opened none (rw (zero-add (stepsIn between)) few) in
     outcome-ends k (done (u .log) c after (u .moment) .outcome) (u .sum) read taken (rw (zero-add (stepsIn between)) all)

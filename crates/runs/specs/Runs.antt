@@ -2,18 +2,18 @@
 use mathlib.Core.Bool.{Bool, true, false, not, cond, _&&_, _||_}
 use mathlib.Core.List.{List, [], _∷_, _++_}
 use mathlib.Core.Path.{_≡_}
-use Prim.Native.Nat.{ℕ, _+_, _-_, _*_, _^_, _≤_, _<_}
+use Prim.Native.Nat.{ℕ, _+_, _*_, _^_, _≤_, _<_}
 use lib.IntN.{ℤ, pos, _*ℤ_}
 use lib.ListN.{length, getD, take}
 use Rattle.gf2.specs.Strings.{BitString}
 use Rattle.gf2.specs.Sums.{sum}
-use Rattle.gf2.specs.Digits.{highFirst}
 use Rattle.circuit.specs.declared.Colour.{Colour}
 use Rattle.circuit.specs.declared.Gate.{Gate}
 use Rattle.circuit.specs.Colours.{join}
 use Rattle.circuit.specs.Sum.{Basis, signedSum}
 use Rattle.slices.specs.Rank.{tally}
 use Rattle.slices.specs.Totals.{withStart}
+use Rattle.held.specs.Circuit.{Circuit, allZeros, newCircuit, withGates, withoutLast, withNewStart}
 use Rattle.text.specs.Spelling.{bytes, sameBytes, begins}
 use Rattle.lines.specs.declared.Class.{Class}
 use Rattle.lines.specs.declared.Class.the-variants.{Creates, Builds, TakesBack, Starts, Opens, Steps, Drops, Lists}
@@ -28,8 +28,7 @@ use Rattle.engine.specs.declared.State.{State}
 use Rattle.engine.specs.declared.Reply.{Reply}
 use Rattle.engine.specs.declared.Fetched.{Fetched}
 use Rattle.engine.specs.Engine.{Engine, freshEngine}
-use Rattle.engine.specs.State.{encode}
-use Rattle.engine.specs.Calls.{response, Given, Answered, FetchGiven, FetchAnswered}
+use Rattle.engine.specs.Calls.{encode, response, Given, Answered, FetchGiven, FetchAnswered}
 
 -- ---- "A run is a list of lines of any bytes, every form, refused and empty lines included, with fetches between, from a fresh engine (no
 -- circuit) on a lent history of any length, each call on an answer buffer of any length."
@@ -69,7 +68,7 @@ GivenFrom e h (line c ∷ cs) =
     × GivenFrom (response e h (c .line) (length (c .buffer)) .after) (c .history) cs
 GivenFrom e h (fetch f ∷ cs) = FetchGiven e (f .number) (f .buffer) (f .fetched) (f .written) × GivenFrom e h cs
 
--- ---- "An accepted circuit is what this book holds, fed only the lines and their answers"
+-- ---- "An accepted circuit is what this book holds, fed only the lines and their answers"; "At first there is none", a circuit of no positions
 
 -- The answer: the bytes that the call says it wrote.
 unfoldable pub answerOf : LineCall → List ℕ
@@ -79,78 +78,43 @@ answerOf c = take (c .reply .len) (c .written)
 unfoldable pub shownBy : FetchCall → List ℕ
 shownBy f = take (f .fetched .len) (f .written)
 
-pub record Entered : Type 0 where
-  pub m : ℕ
-  pub gates : List Gate
-  pub start : Basis
-
--- "At first there is none."
-pub data Book : Type 0 where
-  none : Book
-  holds : Entered → Book
-
-unfoldable pub zeros : ℕ → BitString
-zeros m = highFirst m 0
-
-unfoldable pub allZeros : ℕ → Basis
-allZeros m = record { red = zeros m; blue = zeros m; green = zeros m }
-
 -- "answered `(ok)`"
 unfoldable pub isOk : List ℕ → Bool
 isOk a = sameBytes a (bytes "(ok)")
-
--- "`(circuit m)` answered `(ok)`: m, no gates, start all zeros."
-unfoldable pub entered : ℕ → Book
-entered m = holds (record { m = m; gates = []; start = allZeros m })
-
--- "A gate line answered `(ok)` puts its gate at the end, a layer its gates from left to right."
-unfoldable pub addGates : List Gate → Book → Book
-addGates gs none = none
-addGates gs (holds b) = holds (record { m = b .m; gates = b .gates ++ gs; start = b .start })
-
--- "`(undo k)` answered `(ok)` takes the last k off."
-unfoldable pub takeOff : ℕ → Book → Book
-takeOff k none = none
-takeOff k (holds b) = holds (record { m = b .m; gates = take (length (b .gates) - k) (b .gates); start = b .start })
-
--- "`(start R B G)` answered `(ok)` sets the start."
-unfoldable pub setStart : Basis → Book → Book
-setStart s none = none
-setStart s (holds b) = holds (record { m = b .m; gates = b .gates; start = s })
 
 -- R, B and G.
 unfoldable pub inOrder : List BitString → Basis
 inOrder ss = record { red = getD ss 0 []; blue = getD ss 1 []; green = getD ss 2 [] }
 
--- What a form that was answered `(ok)` does to the book, by its row. "Anything else, refused lines included, changes nothing."
-unfoldable pub enterBy : Class → Row → Book → Book
-enterBy Creates r b = entered (r .number)
-enterBy Builds r b = addGates (r .gates) b
-enterBy TakesBack r b = takeOff (r .number) b
-enterBy Starts r b = setStart (inOrder (r .strings)) b
+-- What a form that was answered `(ok)` does to the book, by its row: "m, no gates, start all zeros"; "puts its gate at the end, a layer its gates
+-- from left to right"; "takes the last k off"; "sets the start". "Anything else, refused lines included, changes nothing."
+unfoldable pub enterBy : Class → Row → Circuit → Circuit
+enterBy Creates r b = newCircuit (r .number)
+enterBy Builds r b = withGates (r .gates) b
+enterBy TakesBack r b = withoutLast (r .number) b
+enterBy Starts r b = withNewStart (inOrder (r .strings)) b
 enterBy Opens r b = b
 enterBy Steps r b = b
 enterBy Drops r b = b
 enterBy Lists r b = b
 
-unfoldable pub enter : Reading → Book → Book
+unfoldable pub enter : Reading → Circuit → Circuit
 enter (typed t) b = enterBy (row t .class) (row t) b
 enter (refused n) b = b
 
-unfoldable pub fed : Book → List ℕ → List ℕ → Book
+unfoldable pub fed : Circuit → List ℕ → List ℕ → Circuit
 fed b l a = cond (isOk a) (enter (readingOf l) b) b
 
 -- ---- "take the last line `(part C X Y)` before it that was answered `(left L)`, and the book as it stood there"
 
-pub record Part : Type 0 where
-  pub colour : Colour
-  pub x : BitString
-  pub y : BitString
-  pub book : Book
+-- What a line asked for that was answered `(left L)`, and the book as it stood there.
+pub record Noted : Type 0 where
+  pub asked : Asked
+  pub book : Circuit
 
-pub data Last (A : Type 0) : Type 0 where
-  never : Last A
-  last : A → Last A
+pub data Last : Type 0 where
+  never : Last
+  last : Noted → Last
 
 unfoldable pub isLeft : List ℕ → Bool
 isLeft a = begins (bytes "(left ") a
@@ -160,36 +124,23 @@ unfoldable pub askedIn : Reading → List Asked
 askedIn (typed t) = row t .asked
 askedIn (refused n) = []
 
-unfoldable pub noted : Book → List Asked → List ℕ → Last Part → Last Part
+unfoldable pub noted : Circuit → List Asked → List ℕ → Last → Last
 noted b [] a p = p
-noted b (amp C r x g ∷ qs) a p = p
-noted b (part C x y ∷ qs) a p = cond (isLeft a) (last (record { colour = C; x = x; y = y; book = b })) p
+noted b (q ∷ qs) a p = cond (isLeft a) (last (record { asked = q; book = b })) p
 
--- The same for `(amp C R B G)`: the output string, and the book as it stood.
-pub record Amp : Type 0 where
-  pub output : Basis
-  pub book : Book
-
-unfoldable pub notedAmp : Book → List Asked → List ℕ → Last Amp → Last Amp
-notedAmp b [] a p = p
-notedAmp b (amp C r x g ∷ qs) a p =
-    cond (isLeft a) (last (record { output = record { red = r; blue = x; green = g }; book = b })) p
-notedAmp b (part C x y ∷ qs) a p = p
-
+-- The book, and the last sum that was opened, by `part` or by `amp`.
 pub record Log : Type 0 where
-  pub book : Book
-  pub part : Last Part
-  pub amp : Last Amp
+  pub book : Circuit
+  pub opened : Last
 
 unfoldable pub emptyLog : Log
-emptyLog = record { book = none; part = never; amp = never }
+emptyLog = record { book = newCircuit 0; opened = never }
 
 unfoldable pub logged : Log → Call → Log
 logged g (line c) =
     record {
       book = fed (g .book) (c .line) (answerOf c);
-      part = noted (g .book) (askedIn (readingOf (c .line))) (answerOf c) (g .part);
-      amp = notedAmp (g .book) (askedIn (readingOf (c .line))) (answerOf c) (g .amp);
+      opened = noted (g .book) (askedIn (readingOf (c .line))) (answerOf c) (g .opened);
     }
 logged g (fetch f) = g
 
@@ -240,45 +191,41 @@ pub record Exact (m : ℕ) (gates : List Gate) (C : Colour) (X Y : BitString) (t
   pub exponent : n ≡ 3 * m
   pub squares : pos (2 ^ (3 * m)) *ℤ pos t ≡ sum m (λ w. square (signedSum m gates (join C w X Y)))
 
--- A call of the run that is answered `(part T n)`, with what was noted before it: the last accepted `part` was (part C X Y), and the book
--- then held m, the gates, and a start of zeros.
-pub record Answers (calls : List Call) (m : ℕ) (gates : List Gate) (C : Colour) (X Y : BitString) (t n : ℕ) : Type 0 where
+-- A call of the run that is answered `a`, where the last sum opened before it was asked for by q, and the book then held b.
+pub record Answers (calls : List Call) (a : Answer) (q : Asked) (b : Circuit) : Type 0 where
   pub before : List Call
   pub call : LineCall
   pub after : List Call
   pub place : calls ≡ before ++ (line call ∷ after)
-  pub answer : answerOf call ≡ bytesOf (Answer.Readout t n)
-  pub part : Part
-  pub latest : logOf before .part ≡ last part
-  pub colour : part .colour ≡ C
-  pub first : part .x ≡ X
-  pub second : part .y ≡ Y
-  pub book : part .book ≡ holds (record { m = m; gates = gates; start = allZeros m })
+  pub answer : answerOf call ≡ bytesOf a
+  pub latest : logOf before .opened ≡ last (record { asked = q; book = b })
 
--- Somebody opened the sum that is answered: a `(part T n)` never comes without an accepted `part` before it, and the book then held a circuit.
+-- Somebody opened the sum that is answered: the last sum opened was a `part`, and the book then held a circuit.
 pub record Opening (calls : List Call) : Type 0 where
-  pub part : Part
-  pub latest : logOf calls .part ≡ last part
-  pub entered : Entered
-  pub book : part .book ≡ holds entered
+  pub colour : Colour
+  pub x : BitString
+  pub y : BitString
+  pub book : Circuit
+  pub latest : logOf calls .opened ≡ last (record { asked = part colour x y; book = book })
+  pub some : 1 ≤ book .m
 
 pub record IsReadout (answer : List ℕ) : Type 0 where
   pub t : ℕ
   pub n : ℕ
   pub is : answer ≡ bytesOf (Answer.Readout t n)
 
--- The amplitude of the last accepted `amp`: the sum carried gate by gate over the gates that the book then held, at the output string with the
--- starting ones added, whichever colour was sliced.
+-- The amplitude of the last sum opened, which was an `amp`: the sum carried gate by gate over the gates that the book then held, at the output
+-- string with the starting ones added, whichever colour was sliced.
 pub record Amplitude (calls : List Call) (s : ℤ) (n : ℕ) : Type 0 where
-  pub asked : Amp
-  pub latest : logOf calls .amp ≡ last asked
-  pub entered : Entered
-  pub book : asked .book ≡ holds entered
-  pub exponent : n ≡ 3 * entered .m
-  pub sum : s ≡ signedSum (entered .m) (entered .gates) (withStart (entered .start) (asked .output))
+  pub colour : Colour
+  pub output : Basis
+  pub book : Circuit
+  pub latest : logOf calls .opened ≡ last (record { asked = amp colour (output .red) (output .blue) (output .green); book = book })
+  pub exponent : n ≡ 3 * book .m
+  pub sum : s ≡ signedSum (book .m) (book .gates) (withStart (book .start) output)
 
 pub record SoundRun (calls : List Call) : Type 0 where
-  -- every `(part T n)` has an accepted `part` before it
+  -- every `(part T n)` has an accepted `part` before it, and no other sum was opened since
   pub opened :
       (before : List Call) (c : LineCall) (after : List Call) (t n : ℕ) → calls ≡ before ++ (line c ∷ after) →
       answerOf c ≡ bytesOf (Answer.Readout t n) → Opening before
@@ -288,24 +235,27 @@ pub record SoundRun (calls : List Call) : Type 0 where
       shownBy f ≡ bytesOf (Answer.Readout t n) → ⊥
   -- every readout count is exact
   pub exact :
-      (m : ℕ) (gates : List Gate) (C : Colour) (X Y : BitString) (t n : ℕ) → Answers calls m gates C X Y t n → Exact m gates C X Y t n
+      (m : ℕ) (gates : List Gate) (C : Colour) (X Y : BitString) (t n : ℕ) →
+      Answers calls (Answer.Readout t n) (part C X Y) (record { m = m; gates = gates; start = allZeros m }) → Exact m gates C X Y t n
   -- the counts of all pairs add up to 2^(3m)
   pub total :
       (m : ℕ) (gates : List Gate) (C : Colour) (t n : BitString → BitString → ℕ) →
-      ((X Y : BitString) → length X ≡ m → length Y ≡ m → Answers calls m gates C X Y (t X Y) (n X Y)) →
+      ((X Y : BitString) → length X ≡ m → length Y ≡ m →
+      Answers calls (Answer.Readout (t X Y) (n X Y)) (part C X Y) (record { m = m; gates = gates; start = allZeros m })) →
       tally m (λ X. tally m (λ Y. t X Y)) ≡ 2 ^ (3 * m)
   -- every `part` that is answered `(left L)` finds a circuit in the book
   pub entered :
       (before : List Call) (p : LineCall) (after : List Call) (C : Colour) (x y : BitString) → calls ≡ before ++ (line p ∷ after) →
-      readingOf (p .line) ≡ typed (opens (part C x y)) → isLeft (answerOf p) ≡ true → (b : Entered) × (logOf before .book ≡ holds b)
+      readingOf (p .line) ≡ typed (opens (part C x y)) → isLeft (answerOf p) ≡ true → 1 ≤ logOf before .book .m
   -- "If the k of the accepted steps after an accepted `part` reach a total of 2^m or more, with no accepted `drop` before that, the step that
-  -- first reaches it is answered `(part T n)`." The `part` is p, the step is c, and b is what the book held at p.
+  -- first reaches it is answered `(part T n)`." The `part` is p, the step is c, and m is that of the book at p.
   pub ends :
-      (before : List Call) (p : LineCall) (between : List Call) (c : LineCall) (after : List Call) (C : Colour) (x y : BitString) (b : Entered)
-      (k : ℕ) → calls ≡ before ++ (line p ∷ (between ++ (line c ∷ after))) →
-      readingOf (p .line) ≡ typed (opens (part C x y)) → isLeft (answerOf p) ≡ true → logOf before .book ≡ holds b →
-      dropsIn between ≡ false → stepsIn between < 2 ^ b .m →
-      readingOf (c .line) ≡ typed (step k) → isAccepted (answerOf c) ≡ true → 2 ^ b .m ≤ stepsIn between + k → IsReadout (answerOf c)
+      (before : List Call) (p : LineCall) (between : List Call) (c : LineCall) (after : List Call) (C : Colour) (x y : BitString) (k : ℕ) →
+      calls ≡ before ++ (line p ∷ (between ++ (line c ∷ after))) →
+      readingOf (p .line) ≡ typed (opens (part C x y)) → isLeft (answerOf p) ≡ true →
+      dropsIn between ≡ false → stepsIn between < 2 ^ logOf before .book .m →
+      readingOf (c .line) ≡ typed (step k) → isAccepted (answerOf c) ≡ true → 2 ^ logOf before .book .m ≤ stepsIn between + k →
+      IsReadout (answerOf c)
   -- demand 2 at the call: every `(amp S n)` is the signed sum of the book's gates at the output string with the start added
   pub amplitudes :
       (before : List Call) (c : LineCall) (after : List Call) (s : ℤ) (n : ℕ) → calls ≡ before ++ (line c ∷ after) →
