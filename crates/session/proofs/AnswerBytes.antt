@@ -10,8 +10,7 @@ use Rattle.lines.specs.Readings.{readingOf}
 use Rattle.answers.specs.declared.Answer.{Answer}
 use Rattle.answers.specs.declared.Answer.the-variants.{Ok, Left, Amplitude, Readout, Terms, Listed, Refused}
 use Rattle.answers.specs.Answers.{bytesOf}
-use Rattle.engine.specs.Engine.{Engine}
-use Rattle.engine.specs.Response.{turnOf}
+use Rattle.engine.specs.Engine.{Engine, turnOf}
 use Rattle.engine.specs.Calls.{answering, skipped, response}
 use Rattle.session.proofs.LaterLines.{spelled-some}
 
@@ -31,7 +30,7 @@ module _ (e : Engine) (h line : List ℕ) where
 
   some-by : 1 ≤ length (given-by false)
   unfolding given-by answering
-  some-by = bytes-some (turnOf (e .loaded) (length h) (readingOf line) .answer)
+  some-by = bytes-some (turnOf (e .circuit) (e .opened) (length h) (readingOf line) .answer)
 
   pub skipped-silent : eqb (length line) 0 ≡ true → response e h line 64 .bytes ≡ []
   unfolding response skipped

@@ -14,7 +14,6 @@ use Rattle.circuit.specs.Listing.{overPositions, triples, pairsBeside, everyTer
 use Rattle.text.specs.Spelling.{spelledGate}
 use Rattle.answers.specs.Answers.{bytesOf}
 use Rattle.engine.specs.Engine.{Engine}
-use Rattle.engine.specs.Response.{gatesOf}
 use Rattle.engine.specs.Calls.{entryBytes, lineNumbered, laterLine, fetchedBytes}
 use Rattle.session.specs.Session.{laterLines}
 
@@ -31,7 +30,7 @@ unfolding fetchedBytes laterLine lineNumbered laterLines
 line-fetched e n = go (e .listed)
   where
     terms : List Term
-    terms = listing 16 (polynomial (gatesOf (e .loaded)))
+    terms = listing 16 (polynomial (e .circuit .gates))
 
     go : (b : Bool) → cond b (entryBytes (entryOf terms n)) [] ≡ getD (cond b (map spelledGate (gatesIn terms)) []) n []
     go true = entry-line terms n
@@ -55,7 +54,7 @@ unfolding laterLines
 later-some e n = go (e .listed)
   where
     gates : List Gate
-    gates = gatesIn (listing 16 (polynomial (gatesOf (e .loaded))))
+    gates = gatesIn (listing 16 (polynomial (e .circuit .gates)))
 
     go : (b : Bool) → n < length (cond b (map spelledGate gates) []) → 1 ≤ length (getD (cond b (map spelledGate gates) []) n [])
     go true h = some-spelled gates n h
@@ -109,8 +108,8 @@ unfolding laterLines listing
 later-few e = go (e .listed)
   where
     terms : List Term
-    terms = listing 16 (polynomial (gatesOf (e .loaded)))
+    terms = listing 16 (polynomial (e .circuit .gates))
 
     go : (b : Bool) → length (cond b (map spelledGate (gatesIn terms)) []) ≤ 4864
-    go true = omega (arith, length-map (gatesIn terms) spelledGate, gates-same terms, among-few (polynomial (gatesOf (e .loaded))) (everyTerm 16), count-every)
+    go true = omega (arith, length-map (gatesIn terms) spelledGate, gates-same terms, among-few (polynomial (e .circuit .gates)) (everyTerm 16), count-every)
     go false = omega arith

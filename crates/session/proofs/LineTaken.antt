@@ -6,14 +6,12 @@ use mathlib.Core.Bool.{false}
 use mathlib.Core.List.{List, [], _∷_, _++_, append-nil, append-assoc}
 use lib.Dec.{eqb}
 use lib.ListN.{length, take, length-take}
-use Rattle.engine.specs.declared.State.{State}
 use Rattle.engine.specs.declared.Reply.{Reply}
 use Rattle.engine.specs.Engine.{Engine}
-use Rattle.engine.specs.State.{Holds, encode}
-use Rattle.engine.specs.Calls.{Response, skipped, response, Given, Answered}
+use Rattle.engine.specs.Calls.{Holds, Response, skipped, response, Given, Answered}
 use Rattle.engine.proofs.Keeping.{held-on}
 use Rattle.engine.proofs.Outcomes.{bytes-given}
-use Rattle.engine.proofs.TurnTaken.{listed-kept}
+use Rattle.engine.proofs.TurnLaws.{listed-held}
 use Rattle.session.specs.declared.Waiting.{Waiting}
 use Rattle.session.specs.declared.Session.{Session}
 use Rattle.session.specs.Session.{asText, laterLines, Progress, answerTo, withResponse, withLine}
@@ -48,10 +46,8 @@ module _ (p : Progress) (s : Session) (history out line : List ℕ) (at : At p s
   bytes-after = bytes-given (p .engine) history line answer r h' answer' given ∙ ap (λ (x : Response). x .bytes) same
 
   none-later : r .state .listed ≡ false → laterLines (after .after) ≡ []
-  unfolding encode laterLines
-  none-later quiet =
-      let told = ap (λ (x : State). x .listed) (held-after .state) ∙ listed-kept (after .after .loaded) (after .after .listed) in
-      rw (sym told ∙ quiet)
+  unfolding laterLines
+  none-later quiet = rw (sym (listed-held (after .after) (r .state) (held-after .state)) ∙ quiet)
 
   pub line-skipped : r .len ≡ 0 → At (withLine p line) (record { state = r .state; waiting = s .waiting }) h' out
   unfolding after withLine withResponse answerTo asText skipped

@@ -11,8 +11,7 @@ use borrow.Author.Tests.{ltb-true, ltb-false}
 use Rattle.engine.specs.declared.State.{State}
 use Rattle.engine.specs.declared.Fetched.{Fetched}
 use Rattle.engine.specs.Engine.{Engine}
-use Rattle.engine.specs.State.{Holds}
-use Rattle.engine.specs.Calls.{fetchedBytes, FetchAnswered}
+use Rattle.engine.specs.Calls.{Holds, fetchedBytes, FetchAnswered}
 use Rattle.engine.proofs.Outcomes.{bytes-fetched}
 use Rattle.session.specs.declared.Waiting.{Waiting}
 use Rattle.session.specs.Session.{asText, laterLines}

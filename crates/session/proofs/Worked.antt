@@ -1,29 +1,31 @@
 -- The definitions themselves, computed on what is typed, give document 01's worked session: an example for whoever reads them.
 use mathlib.Core.Path.{_≡_, refl}
-use Rattle.gf2.specs.Strings.{_⊕_, _⊞_, dot, bit}
+use Rattle.gf2.specs.Strings.{_⊕_, _⊞_, dot, bit, zeros}
 use Rattle.gf2.specs.Sums.{sum, sumBelow, parity, sgn}
 use Rattle.gf2.specs.Digits.{bitOf, odd, highFirst}
 use Rattle.circuit.specs.Colours.{the, first, second, join, put}
 use Rattle.circuit.specs.Sum.{isPosition, at, isGate, areGates}
 use Rattle.circuit.specs.Polynomial.{term, sameTerm, empty, toggled, substituted, pair, applied, appliedAll, polynomial, product, parityAll, value}
 use Rattle.circuit.specs.Listing.{overPositions, triples, pairsBeside, everyTerm, among, listing, gateOfTerm, gatesOf}
-use Rattle.slices.specs.Totals.{strings, isNought, amplitudeAfter, share, tallyBelow, readoutAfter, readoutCount}
+use Rattle.slices.specs.Totals.{withStart, isNought, amplitudeAfter, share, tallyBelow, readoutAfter, readoutCount}
 use Rattle.slices.specs.Slices.{along, coefficient, gamma, innerSum}
-use Rattle.text.specs.Spelling.{sameBytes, digits, decimal, signedDecimal, bitDigits, numberAfter, numberOfBits, spelledSpot, spelledGate, begins}
+use Rattle.text.specs.Spelling.{sameBytes, digits, decimal, signedDecimal, bitDigits, spelledSpot, spelledGate, begins}
 use Rattle.text.specs.Items.{valueFrom, afterDigits, frontBits, afterBits, colourOf, spotOf, cczOf, czOf, cnotOf, gateOf}
 use Rattle.lines.specs.Typed.{stringsOf, row}
 use Rattle.lines.specs.Spelling.{spelledGates, spelledBits, spelled, someBits, allSome, isAllowed, allAllowed, colourTwice, anyColourTwice, gatesIn}
 use Rattle.lines.specs.Readings.{gatesAfter, typedOf, shapeAs, readingOf}
 use Rattle.answers.specs.Answers.{bytesOf, infront}
 use Rattle.refusals.specs.Refusals.{orElse, refusedIf, classNumber, isClass, works, momentRefusal, within, inRange, allInRange, onItself, anyOnItself, outOfRange, anyNotLong, operandRefusal, places, undoesMore, historyRefusal, rowRefusal, refusalBy}
-use Rattle.engine.specs.Engine.{freshEngine}
-use Rattle.engine.specs.Response.{noStrings, newCircuit, withGates, withoutLast, withNewStart, asNumbers, outputWith, opening, besideUnread, outputOf, total, stepped, stepOf, withoutSum, termsOf, accepted, hasCircuit, circuitOf, openedOf, isRunning, refusalOf, turnBy, turnOf}
-use Rattle.engine.specs.Calls.{refusalNumber, hasLines, stored, answering, tooShort, skipped, response}
+use Rattle.held.specs.Circuit.{allZeros, newCircuit, withGates, withoutLast, withNewStart}
+use Rattle.held.specs.Memory.{stored}
+use Rattle.sums.specs.Sums.{isRunning, totalAfter, ended, opening, stepped, stepAnswer}
+use Rattle.engine.specs.Engine.{freshEngine, accepted, refusalOf, turnBy, turnOf}
+use Rattle.engine.specs.Calls.{asksTerms, answering, tooShort, skipped, response}
 use Rattle.framing.specs.Lines.{linesAfter, linesOf}
 use Rattle.framing.specs.Framing.{clipped, pendingOf}
 use Rattle.session.specs.Session.{asText, laterLines, begun, answerTo, withResponse, withLine, withLines, sessionOf}
 use Rattle.session.specs.Worked.{typedLines, answerLines}
 
 pub worked-session : sessionOf (asText typedLines) .said ≡ asText answerLines
-unfolding _⊕_ _⊞_ dot bit sum sumBelow parity sgn bitOf odd highFirst the first second join put isPosition at isGate areGates term sameTerm empty toggled substituted pair applied appliedAll polynomial product parityAll value overPositions triples pairsBeside everyTerm among listing gateOfTerm gatesOf strings along coefficient gamma innerSum isNought amplitudeAfter share tallyBelow readoutAfter readoutCount sameBytes digits decimal signedDecimal bitDigits numberAfter numberOfBits spelledSpot spelledGate begins valueFrom afterDigits frontBits afterBits colourOf spotOf cczOf czOf cnotOf gateOf stringsOf row spelledGates spelledBits spelled someBits allSome isAllowed allAllowed colourTwice anyColourTwice gatesIn gatesAfter typedOf shapeAs readingOf bytesOf infront orElse refusedIf classNumber isClass works momentRefusal within inRange allInRange onItself anyOnItself outOfRange anyNotLong operandRefusal places undoesMore historyRefusal rowRefusal refusalBy freshEngine noStrings newCircuit withGates withoutLast withNewStart asNumbers outputWith opening besideUnread outputOf total stepped stepOf withoutSum termsOf accepted hasCircuit circuitOf openedOf isRunning refusalOf turnBy turnOf refusalNumber hasLines stored answering tooShort skipped response linesAfter linesOf clipped pendingOf asText laterLines begun answerTo withResponse withLine withLines sessionOf typedLines answerLines
+unfolding _⊕_ _⊞_ dot bit zeros sum sumBelow parity sgn bitOf odd highFirst the first second join put isPosition at isGate areGates term sameTerm empty toggled substituted pair applied appliedAll polynomial product parityAll value overPositions triples pairsBeside everyTerm among listing gateOfTerm gatesOf withStart along coefficient gamma innerSum isNought amplitudeAfter share tallyBelow readoutAfter readoutCount sameBytes digits decimal signedDecimal bitDigits spelledSpot spelledGate begins valueFrom afterDigits frontBits afterBits colourOf spotOf cczOf czOf cnotOf gateOf stringsOf row spelledGates spelledBits spelled someBits allSome isAllowed allAllowed colourTwice anyColourTwice gatesIn gatesAfter typedOf shapeAs readingOf bytesOf infront orElse refusedIf classNumber isClass works momentRefusal within inRange allInRange onItself anyOnItself outOfRange anyNotLong operandRefusal places undoesMore historyRefusal rowRefusal refusalBy allZeros newCircuit withGates withoutLast withNewStart stored isRunning totalAfter ended opening stepped stepAnswer freshEngine accepted refusalOf turnBy turnOf asksTerms answering tooShort skipped response linesAfter linesOf clipped pendingOf asText laterLines begun answerTo withResponse withLine withLines sessionOf typedLines answerLines
 worked-session = refl

@@ -5,7 +5,7 @@ use mathlib.Core.List.{List, [], _∷_, _++_, flatten}
 use mathlib.Core.Path.{_≡_}
 use Prim.Native.Nat.{ℕ, _+_, _-_, _^_, _≤_}
 use lib.ListN.{length, take}
-use Rattle.engine.specs.State.{Holds}
+use Rattle.engine.specs.Calls.{Holds}
 use Rattle.framing.specs.Lines.{linesAfter, linesOf}
 use Rattle.framing.specs.Framing.{pendingOf}
 use Rattle.session.specs.declared.Waiting.{Waiting}

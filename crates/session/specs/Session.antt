@@ -9,7 +9,6 @@ use Rattle.circuit.specs.Polynomial.{polynomial}
 use Rattle.circuit.specs.Listing.{listing, gatesOf as gatesIn}
 use Rattle.text.specs.Spelling.{spelledGate}
 use Rattle.engine.specs.Engine.{Engine, freshEngine}
-use Rattle.engine.specs.Response.{gatesOf}
 use Rattle.engine.specs.Calls.{Response, response}
 use Rattle.framing.specs.Lines.{linesOf}
 
@@ -20,7 +19,7 @@ asText (l ∷ ls) = l ++ (10 ∷ asText ls)
 
 -- "`(terms N)` and then N lines, each a `ccz` or `cz` form": the lines after the first, all of them.
 unfoldable pub laterLines : Engine → List (List ℕ)
-laterLines e = cond (e .listed) (map spelledGate (gatesIn (listing 16 (polynomial (gatesOf (e .loaded)))))) []
+laterLines e = cond (e .listed) (map spelledGate (gatesIn (listing 16 (polynomial (e .circuit .gates))))) []
 
 -- The engine, the history that it is lent, and all that was said.
 pub record Progress : Type 0 where

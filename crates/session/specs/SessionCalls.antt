@@ -6,8 +6,7 @@ use lib.Dec.{eqb}
 use lib.ListN.{length, replicate}
 use Rattle.answers.specs.Answers.{infront}
 use Rattle.engine.specs.Engine.{Engine}
-use Rattle.engine.specs.State.{encode}
-use Rattle.engine.specs.Calls.{Response, response, fetchedBytes}
+use Rattle.engine.specs.Calls.{encode, Response, response, fetchedBytes}
 use Rattle.runs.specs.Runs.{LineCall, FetchCall, Call, line, fetch}
 use Rattle.framing.specs.Lines.{linesOf}
 use Rattle.session.specs.Session.{laterLines, Progress, begun, withLine}

@@ -7,7 +7,7 @@ use lib.IntN.{ℤ}
 use lib.ListN.{length, take}
 use Rattle.io.specs.Counts.{clamped}
 use Rattle.engine.specs.Engine.{freshEngine}
-use Rattle.engine.specs.State.{encode}
+use Rattle.engine.specs.Calls.{encode}
 use Rattle.framing.specs.Framing.{pendingOf}
 use Rattle.session.specs.declared.Waiting.{Waiting}
 use Rattle.session.specs.declared.Reading.{Reading}

@@ -6,7 +6,7 @@ ghost use mathlib.Core.Path.{_≡_};
 ghost use Prim.Native.Nat.{ℕ, _+_, _≤_, _<_};
 ghost use lib.ListN.{length, replicate};
 ghost use Rattle.engine.specs.Engine.{Engine};
-ghost use Rattle.engine.specs.State.{Holds};
+ghost use Rattle.engine.specs.Calls.{Holds};
 ghost use Rattle.framing.specs.Framing.{pendingOf};
 ghost use Rattle.session.specs.Session.{asText, laterLines, Progress, withLine, sessionOf};
 ghost use Rattle.session.specs.Saying.{saidTo, buffered, saidInto, allSaidInto};
