@@ -172,3 +172,4 @@ module _ (room : ℕ) where
         go (typed t) is = turned t is (refusalOf c o room (typed t)) refl
         go (refused zero) is = absurd (omega (arith, refused-among l zero is))
         go (refused (suc n)) is = refuses
+-- x
