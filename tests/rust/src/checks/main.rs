@@ -54,26 +54,53 @@ impl Checks {
 /// Checks about one thing.
 type Group = fn(&mut Checks);
 
+/// The groups by name, in the order in which they run, and each as a test of its own for `cargo test`.
+macro_rules! groups {
+    ($($name:literal: $module:ident,)*) => {
+        const GROUPS: &[(&str, Group)] = &[$(($name, $module::check)),*];
+
+        #[cfg(test)]
+        mod tests {
+            $(
+                #[test]
+                fn $module() {
+                    super::passes(super::$module::check);
+                }
+            )*
+        }
+    };
+}
+
+groups! {
+    "reference and model": own,
+    "known sums and edges": known,
+    "random circuits": circuits,
+    "readout counts": readouts,
+    "large circuits": large,
+    "refusals": refusals,
+    "history": history,
+    "damaged input": damaged,
+    "random lines": grammar,
+    "examples": examples,
+}
+
+/// What differed is printed as it is found, and `cargo test` shows it with the failure.
+#[cfg(test)]
+fn passes(group: Group) {
+    let mut checks = Checks::from_environment();
+    group(&mut checks);
+    let Tally { passed, failed } = checks.tally;
+    assert!(failed == 0 && passed > 0, "{passed} passed, {failed} failed");
+}
+
 fn main() -> ExitCode {
     let mut checks = Checks::from_environment();
     if !checks.program.exists() {
         println!("{} is not there", checks.program.path.display());
     }
-    let groups: [(&str, Group); 10] = [
-        ("reference and model", own::check),
-        ("known sums and edges", known::check),
-        ("random circuits", circuits::check),
-        ("readout counts", readouts::check),
-        ("large circuits", large::check),
-        ("refusals", refusals::check),
-        ("history", history::check),
-        ("damaged input", damaged::check),
-        ("random lines", grammar::check),
-        ("examples", examples::check),
-    ];
     let chosen: Vec<String> = std::env::args().skip(1).collect();
     let is_chosen = |name: &str| chosen.is_empty() || chosen.iter().any(|part| name.contains(part));
-    for (name, group) in groups.into_iter().filter(|(name, _)| is_chosen(name)) {
+    for (name, group) in GROUPS.iter().filter(|(name, _)| is_chosen(name)) {
         let before = (checks.tally.passed, checks.tally.failed);
         group(&mut checks);
         let passed = checks.tally.passed - before.0;
