@@ -3,7 +3,7 @@
 
 use crate::gates::{Colour, Gate, Spot, Strings, cz};
 
-/// The sum over all basis strings of a circuit of m positions; meant for m up to 4.
+/// The sum over all basis strings of a circuit of m positions; meant for m up to 4, at most 6.
 pub struct FullSum {
     m: usize,
     /// At x the signs of the strings that end as x, added up.

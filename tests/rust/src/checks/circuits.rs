@@ -54,7 +54,7 @@ pub fn sum(script: &mut Script, random: &mut Random, m: usize, line: String, ans
 }
 
 /// Lines that build a circuit, its gates and its starting string.
-fn build(script: &mut Script, random: &mut Random, m: usize) -> (Vec<Gate>, Strings) {
+pub fn build(script: &mut Script, random: &mut Random, m: usize) -> (Vec<Gate>, Strings) {
     let mut gates = Vec::new();
     let mut start = [0; 3];
     script.line(format!("(circuit {m})"), "(ok)".to_string());

@@ -155,7 +155,7 @@ fn lines(script: &mut Script, model: &mut Model, writer: &mut Writer, name: &str
 }
 
 /// The lines themselves: they must have met every kind of answer often enough to mean something.
-fn covered(checks: &mut Checks, script: &Script, name: &str, answers: &[&str]) {
+pub fn covered(checks: &mut Checks, script: &Script, name: &str, answers: &[&str]) {
     for answer in answers {
         let count = script.expected(answer);
         let outcome = if count >= 5 {

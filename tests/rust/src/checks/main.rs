@@ -8,6 +8,7 @@ mod grammar;
 mod history;
 mod known;
 mod large;
+mod middle;
 mod own;
 mod readouts;
 mod refusals;
@@ -76,6 +77,7 @@ groups! {
     "known sums and edges": known,
     "random circuits": circuits,
     "readout counts": readouts,
+    "middle circuits": middle,
     "large circuits": large,
     "refusals": refusals,
     "history": history,
