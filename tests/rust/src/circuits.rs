@@ -65,3 +65,23 @@ pub fn full_rank(m: usize, seed: u64) -> Vec<Vec<Gate>> {
     layers.push(in_blocks(m, |p| cz(Colour::Red, p, Colour::Green, 1 + (p + 1) % m)));
     layers
 }
+
+/// A circuit whose phase polynomial has every term there is, 4,864 of them at m = 16: one product of each kind on
+/// position 1, then every position 1 replaced by the sum of all positions of its colour.
+pub fn every_term(m: usize) -> Vec<Gate> {
+    let products = COLOURS.map(|colour| {
+        let [first, second] = colour.others();
+        cz(first, 1, second, 1)
+    });
+    let added = |colour: Colour| {
+        (2..=m).map(move |control| Gate::Cnot {
+            colour,
+            control,
+            target: 1,
+        })
+    };
+    let mut gates = vec![block_ccz(1)];
+    gates.extend(products);
+    gates.extend(COLOURS.into_iter().flat_map(added));
+    gates
+}

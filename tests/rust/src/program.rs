@@ -31,8 +31,12 @@ impl Program {
         self.path.is_file()
     }
 
-    pub fn start(&self) -> Result<Child, String> {
+    pub fn command(&self) -> Command {
         Command::new(&self.path)
+    }
+
+    pub fn start(&self) -> Result<Child, String> {
+        self.command()
             .stdin(Stdio::piped())
             .stdout(Stdio::piped())
             .stderr(Stdio::piped())

@@ -34,9 +34,10 @@ impl Tally {
     }
 }
 
-struct Expected {
-    line: Vec<u8>,
-    answer: Answer,
+/// A line and its answer.
+pub struct Expected {
+    pub line: Vec<u8>,
+    pub answer: Answer,
 }
 
 /// One check: some lines of the script and their answers.
@@ -137,7 +138,7 @@ impl Script {
 }
 
 impl Expected {
-    fn compare(&self, found: Option<Answer>) -> Result<(), String> {
+    pub fn compare(&self, found: Option<Answer>) -> Result<(), String> {
         if found.as_ref() == Some(&self.answer) {
             return Ok(());
         }
@@ -160,7 +161,7 @@ impl Expected {
 }
 
 /// Bytes for a message: escaped, the middle of long ones left out.
-fn shown(bytes: &[u8]) -> String {
+pub fn shown(bytes: &[u8]) -> String {
     let text = bytes.escape_ascii().to_string();
     match text.len() {
         0..=120 => text,

@@ -6,14 +6,7 @@ use std::io::{Read, Write};
 use std::thread;
 use std::time::{Duration, Instant};
 use waitfield_checks::program::Program;
-
-/// The time that a task has been on the processor.
-fn on_processor(task: &str) -> Result<Duration, String> {
-    let path = format!("/proc/{task}/schedstat");
-    let text = fs::read_to_string(&path).map_err(|error| format!("{path}: {error}"))?;
-    let nanoseconds = text.split(' ').next().and_then(|first| first.parse().ok());
-    nanoseconds.map(Duration::from_nanos).ok_or(format!("{path}: {text}"))
-}
+use waitfield_checks::system::on_processor;
 
 /// The time of some work in this thread.
 pub fn measured<T>(work: impl FnOnce() -> T) -> Result<(Duration, T), String> {

@@ -8,7 +8,7 @@ use waitfield_checks::random::Random;
 use waitfield_checks::script::Script;
 
 /// A session with every form in it.
-const EVERY_FORM: &str = "(circuit 2)
+pub const EVERY_FORM: &str = "(circuit 2)
 (layer (ccz 1 2 1) (cz (g 2) (r 1)) (cnot b 2 1))
 (cz (r 1) (b 2))
 (cnot r 1 2)

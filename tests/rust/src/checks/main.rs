@@ -1,6 +1,7 @@
 //! Checks of the built program `session` against the full sum and a model of the session. Every check is counted; the last line
 //! says how many passed and how many failed. Arguments choose groups by a part of their name.
 
+mod at_once;
 mod circuits;
 mod damaged;
 mod examples;
@@ -83,6 +84,7 @@ groups! {
     "history": history,
     "damaged input": damaged,
     "random lines": grammar,
+    "answers at once": at_once,
     "examples": examples,
 }
 

@@ -1,5 +1,5 @@
-//! Circuits of 5 to 12 positions a colour, where the full sum takes too long: random circuits, sparse and dense, with every colour
-//! sliced and every colour unread, against the independent elimination.
+//! Circuits of 5 to 12 positions a colour, where the full sum takes too long: random circuits, sparse and dense, with
+//! every colour sliced and every colour unread, against the independent elimination.
 
 use crate::Checks;
 use crate::circuits::{build, sum};
