@@ -13,6 +13,7 @@ mod middle;
 mod own;
 mod readouts;
 mod refusals;
+mod streams;
 
 use std::process::ExitCode;
 use waitfield_checks::program::Program;
@@ -85,6 +86,7 @@ groups! {
     "damaged input": damaged,
     "random lines": grammar,
     "answers at once": at_once,
+    "failed and slow streams": streams,
     "examples": examples,
 }
 
