@@ -60,10 +60,11 @@ extern "C" fn last_words() {
 /// As for the C library's `read`.
 #[unsafe(no_mangle)]
 pub unsafe extern "C" fn read(stream: c_int, bytes: *mut c_void, length: usize) -> isize {
-    if stream == 0 && turned_back(0) {
-        return -1;
-    }
-    let length = length.min(MOST_BYTES);
+    let length = match stream {
+        0 if turned_back(0) => return -1,
+        0 => length.min(MOST_BYTES),
+        _ => length,
+    };
     unsafe { readv(stream, &Piece { bytes, length }, 1) }
 }
 
@@ -71,9 +72,10 @@ pub unsafe extern "C" fn read(stream: c_int, bytes: *mut c_void, length: usize) 
 /// As for the C library's `write`.
 #[unsafe(no_mangle)]
 pub unsafe extern "C" fn write(stream: c_int, bytes: *const c_void, length: usize) -> isize {
-    if stream == 1 && turned_back(1) {
-        return -1;
-    }
-    let length = length.min(MOST_BYTES);
+    let length = match stream {
+        1 if turned_back(1) => return -1,
+        1 => length.min(MOST_BYTES),
+        _ => length,
+    };
     unsafe { writev(stream, &Piece { bytes, length }, 1) }
 }
