@@ -25,12 +25,14 @@ use Rattle.answers.specs.declared.Answer.the-variants as Answer
 use Rattle.answers.specs.Answers.{bytesOf, infront, Written}
 use Rattle.answers.proofs.Lengths.{ModestGate, answer-fits}
 use Rattle.engine.specs.declared.State.{State}
-use Rattle.engine.specs.Engine.{Engine, turnOf}
+use Rattle.turns.specs.declared.Turn.{Turn as Left}
+use Rattle.turns.specs.Promises.{Turned}
+use Rattle.engine.specs.Engine.{Engine}
 use Rattle.engine.specs.Calls.{encode, Holds, answering, tooShort, skipped, response, Given, entryBytes, lineNumbered, laterLine, fetchedBytes, FetchGiven}
-use Rattle.engine.specs.Turns.{refusalNumber, hasLines, encoded, Turned}
-use Rattle.engine.proofs.TurnRefused.{turn-number, turn-lines}
-use Rattle.engine.proofs.TurnAnswers.{turn-fits}
-use Rattle.engine.proofs.TurnLaws.{circuit-held, listed-held}
+use Rattle.engine.specs.Answering.{refusalNumber, hasLines}
+use Rattle.engine.proofs.AnswersTold.{turn-number, turn-lines}
+use Rattle.turns.proofs.TurnAnswers.{turn-fits}
+use Rattle.engine.proofs.States.{circuit-held, listed-held}
 
 -- ---- states and buffers
 
@@ -66,17 +68,18 @@ module _ (e : Engine) (s : State) (h line buffer : List ℕ) (held : Holds e s h
         record { state = rw (t, r, held .state); len = rw (t, r); refusal = rw (t, r); history = rw (t, r); stands = rw (t, r) }
 
     pub given-answer :
-        64 ≤ length buffer → (s' : State) (a : Answer) (h' : List ℕ) (count : ℕ) (buffer' : List ℕ) (lines : Bool) (number : ℕ) →
-        Turned e h (readingOf line) s' a h' → Written (bytesOf a) buffer count buffer' → lines ≡ hasLines a → number ≡ refusalNumber a →
-        Given e h line buffer (record { state = withLines s' lines; len = count; refusal = number }) h' buffer'
+        64 ≤ length buffer → (t' : Left) (h' : List ℕ) (count : ℕ) (buffer' : List ℕ) (lines : Bool) (number : ℕ) →
+        Turned (e .circuit) (e .opened) h (readingOf line) t' h' → Written (bytesOf (t' .answer)) buffer count buffer' →
+        lines ≡ hasLines (t' .answer) → number ≡ refusalNumber (t' .answer) →
+        Given e h line buffer (record { state = record { circuit = t' .circuit; sum = t' .sum; listed = lines }; len = count; refusal = number }) h' buffer'
     unfolding response answering encode
-    given-answer l s' a h' count buffer' lines number d w m n =
+    given-answer l t' h' count buffer' lines number d w m n =
         let t : eqb (length line) 0 ≡ false = ne-eqb (length line) 0 some in
         let r : ltb (length buffer) 64 ≡ false = le-ltb (length buffer) 64 l in
-        let whole = written-whole _ buffer count buffer' (rw (d .turn .answer) (turn-fits e (length h) line (held .sound))) l w in
+        let whole = written-whole _ buffer count buffer' (rw (d .turn .answer) (turn-fits (e .circuit) (e .opened) (length h) line (held .sound .circuit) (held .sound .opened))) l w in
         let listed = m ∙ ap hasLines (d .turn .answer) ∙ turn-lines (e .circuit) (e .opened) (length h) (readingOf line) in
         record {
-          state = rw (t, r, d .turn .state, listed);
+          state = rw (t, r, d .turn .circuit, d .turn .sum, listed);
           len = rw (t, r, ← d .turn .answer) (whole .counted);
           refusal = rw (t, r) (n ∙ ap refusalNumber (d .turn .answer) ∙ turn-number (e .circuit) (e .opened) (length h) (readingOf line));
           history = rw (t, r) (d .history);

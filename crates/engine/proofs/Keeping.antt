@@ -27,9 +27,9 @@ use Rattle.engine.specs.declared.State.{State}
 use Rattle.engine.specs.declared.Reply.{Reply}
 use Rattle.engine.specs.Engine.{Engine, freshEngine}
 use Rattle.engine.specs.Calls.{encode, Holds, answering, tooShort, skipped, Response, response, Given}
-use Rattle.engine.specs.Turns.{refusalNumber}
-use Rattle.engine.proofs.Views.{one, many, View, refuses, creates, adds, takesBack, starts, opensSum, worksOn, finishes, drops, lists, view}
-use Rattle.engine.proofs.TurnRefused.{ended-number, turn-number}
+use Rattle.engine.specs.Answering.{refusalNumber}
+use Rattle.turns.proofs.Views.{one, many, View, refuses, creates, adds, takesBack, starts, opensSum, worksOn, finishes, drops, lists, view}
+use Rattle.engine.proofs.AnswersTold.{ended-number, turn-number}
 
 -- ---- soundness
 

@@ -1,13 +1,7 @@
-pub mod Passing
-pub mod HeldGates
-pub mod Views
-pub mod TurnRefused
+pub mod AnswersTold
 pub mod Keeping
 pub mod Outcomes
-pub mod GateTaken
-pub mod TurnLaws
-pub mod TurnTaken
-pub mod TurnAnswers
+pub mod States
 pub mod CallLaws
 pub mod TermsListed
 pub mod TakenBack

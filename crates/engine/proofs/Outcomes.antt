@@ -21,7 +21,7 @@ use Rattle.held.specs.Circuit.{Circuit}
 use Rattle.sums.specs.Sums.{Opened}
 use Rattle.engine.specs.Engine.{Engine}
 use Rattle.engine.specs.Calls.{answering, tooShort, skipped, Response, response, Given, entryBytes, lineNumbered, laterLine, fetchedBytes, FetchGiven}
-use Rattle.engine.proofs.Views.{View, view}
+use Rattle.turns.proofs.Views.{View, view}
 
 -- A line that is skipped, or whose buffer is too short, has no answer and leaves the engine; any other has its answer's bytes.
 pub data Outcome (room : ℕ) (line : List ℕ) (c : Circuit) (o : Opened) : Circuit → Opened → List ℕ → Type 0 where

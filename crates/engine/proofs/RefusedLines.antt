@@ -13,9 +13,10 @@ use Rattle.lines.specs.Spelling.{Reading, typed, refused}
 use Rattle.lines.specs.Readings.{readingOf}
 use Rattle.refusals.specs.Refusals.{refusalBy}
 use Rattle.sums.specs.Sums.{Opened}
-use Rattle.engine.specs.Engine.{Engine, Turn, refusalOf, turnBy, turnOf}
+use Rattle.turns.specs.Turns.{Turn, refusalOf, turnBy, turnOf}
+use Rattle.engine.specs.Engine.{Engine}
 use Rattle.engine.specs.Calls.{Response, answering, tooShort, skipped, response}
-use Rattle.engine.proofs.TurnAnswers.{refusal-most}
+use Rattle.turns.proofs.TurnAnswers.{refusal-most}
 
 module _ (c : Circuit) (o : Opened) (room : ℕ) where
   abbrev Left : Turn → Type 0

@@ -22,7 +22,8 @@ use Rattle.sums.specs.Sums.{encodeSum}
 use Rattle.engine.specs.declared.State.{State}
 use Rattle.engine.specs.declared.Reply.{Reply}
 use Rattle.engine.specs.declared.Fetched.{Fetched}
-use Rattle.engine.specs.Engine.{Engine, refusalOf, turnOf}
+use Rattle.turns.specs.Turns.{refusalOf, turnOf}
+use Rattle.engine.specs.Engine.{Engine}
 use Rattle.engine.specs.Soundness.{Sound}
 
 -- ---- the state of an engine

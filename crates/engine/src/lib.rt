@@ -2,14 +2,11 @@
 ghost use mathlib.Core.Path.{_≡_};
 ghost use Rattle.engine.specs.Engine.{freshEngine};
 ghost use Rattle.engine.specs.Calls.{encode, Answered, FetchAnswered};
-ghost use Rattle.engine.specs.Turns.{refusalNumber, hasLines};
+ghost use Rattle.engine.specs.Answering.{refusalNumber, hasLines};
 use answers::Answer;
 use circuit::Entry;
 use held::Held;
 use sums::Sum;
-
-mod layers;
-mod turns;
 
 // A shorter answer buffer is refusal 1: no answer has more bytes.
 const LEAST_BUFFER: usize = 64;
@@ -19,12 +16,6 @@ pub struct State {
     pub sum: Sum,
     // Can the lines of a listing be fetched?
     pub listed: bool,
-}
-
-// What a line does: the state it leaves, and its answer.
-struct Turn {
-    state: State,
-    answer: Answer,
 }
 
 // What a call leaves: the state, how many bytes the answer has, and the number of the refusal, 0 for none.
@@ -91,13 +82,19 @@ pub fn line(state: State, history: &mut [u32], line: &[u8], buffer: &mut [u8]) -
             refusal: 1,
         };
     }
-    let turned = turns::turn(state, history, line);
+    let held = state.circuit;
+    let running = state.sum;
+    let turned = turns::take_line(held, running, history, line);
     let answer = turned.answer;
     let len = answers::write(answer, buffer);
-    let mut after = turned.state;
-    after.listed = has_lines(answer);
+    let circuit = turned.circuit;
+    let sum = turned.sum;
     Reply {
-        state: after,
+        state: State {
+            circuit,
+            sum,
+            listed: has_lines(answer),
+        },
         len,
         refusal: refusal_number(answer),
     }

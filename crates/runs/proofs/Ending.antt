@@ -15,7 +15,7 @@ use Rattle.lines.specs.Spelling.{Reading}
 use Rattle.answers.specs.declared.Answer.{Answer}
 use Rattle.answers.specs.declared.Answer.the-variants as Answer
 use Rattle.sums.specs.Sums.{OpenSum, Opened, running, totalAfter, ended}
-use Rattle.engine.proofs.Views.{View, refuses, creates, adds, takesBack, starts, opensSum, worksOn, finishes, drops, lists}
+use Rattle.turns.proofs.Views.{View, refuses, creates, adds, takesBack, starts, opensSum, worksOn, finishes, drops, lists}
 
 pub data ReadoutEnd (t n : ℕ) : Opened → Type 0 where
   counted :

@@ -13,7 +13,7 @@ use Rattle.answers.specs.declared.Answer.{Answer}
 use Rattle.answers.specs.declared.Answer.the-variants as Answer
 use Rattle.answers.specs.Answers.{bytesOf}
 use Rattle.sums.specs.Sums.{Opened, closed, running, totalAfter, ended}
-use Rattle.engine.proofs.Views.{one, many, View, refuses, creates, adds, takesBack, starts, opensSum, worksOn, finishes, drops, lists}
+use Rattle.turns.proofs.Views.{one, many, View, refuses, creates, adds, takesBack, starts, opensSum, worksOn, finishes, drops, lists}
 use Rattle.runs.specs.Runs.{LineCall, line, answerOf, isOk, inOrder, enterBy, enter, fed, Last, last, isLeft, askedIn, noted, Log, logged}
 
 abbrev pub NotedFor : Opened → Log → Type 0

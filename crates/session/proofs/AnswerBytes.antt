@@ -10,7 +10,8 @@ use Rattle.lines.specs.Readings.{readingOf}
 use Rattle.answers.specs.declared.Answer.{Answer}
 use Rattle.answers.specs.declared.Answer.the-variants.{Ok, Left, Amplitude, Readout, Terms, Listed, Refused}
 use Rattle.answers.specs.Answers.{bytesOf}
-use Rattle.engine.specs.Engine.{Engine, turnOf}
+use Rattle.turns.specs.Turns.{turnOf}
+use Rattle.engine.specs.Engine.{Engine}
 use Rattle.engine.specs.Calls.{answering, skipped, response}
 use Rattle.session.proofs.LaterLines.{spelled-some}
 

@@ -11,7 +11,7 @@ use Rattle.engine.specs.Engine.{Engine}
 use Rattle.engine.specs.Calls.{Holds, Response, skipped, response, Given, Answered}
 use Rattle.engine.proofs.Keeping.{held-on}
 use Rattle.engine.proofs.Outcomes.{bytes-given}
-use Rattle.engine.proofs.TurnLaws.{listed-held}
+use Rattle.engine.proofs.States.{listed-held}
 use Rattle.session.specs.declared.Waiting.{Waiting}
 use Rattle.session.specs.declared.Session.{Session}
 use Rattle.session.specs.Session.{asText, laterLines, Progress, answerTo, withResponse, withLine}

@@ -8,7 +8,7 @@ use types.Run.{OneOf, miss}
 use Rattle.answers.specs.declared.Answer.{Answer}
 use Rattle.answers.specs.declared.Answer.the-variants as Answer
 use Rattle.answers.proofs.Answer.{the-type}
-use Rattle.engine.specs.Turns.{hasLines}
+use Rattle.engine.specs.Answering.{hasLines}
 use borrow.Author.Needs.{needs}
 use Rattle.engine.proofs.has_lines.Statement.{statement}
 use Rattle.engine.proofs.has_lines.Tie as tie

@@ -1,4 +1,5 @@
 -- A line of no bytes is skipped, a short buffer is refusal 1, and any other line has its turn, whose answer has room in the 64 bytes.
+use Rattle.engine.proofs.States.{stands}
 use Rattle.engine.proofs.CallLaws.{given-none, given-short, given-answer}
 use borrow.Author.Needs.{needs}
 use Rattle.engine.proofs.line.Statement.{statement}
@@ -10,8 +11,8 @@ returns c e h = given-none e _ _ _ _ h (c .if1 .taken)
 returns-2 : tie.Need-returns-2
 returns-2 c e h = given-short e _ _ _ _ h (c .before .if1 .left) (c .if2 .taken)
 
-turn-requires : tie.Need-turn-requires
-turn-requires c κs = search needs
+take-line-requires : tie.Need-take-line-requires
+take-line-requires c κs = search needs
 
 write-requires : tie.Need-write-requires
 write-requires c κs = search needs
@@ -30,8 +31,11 @@ same-length-2 c = search needs
 
 returns-3 : tie.Need-returns-3
 returns-3 c e h =
-    given-answer e _ _ _ _ h (c .before .before .before .before .before .before .before .before .before .before .before .before .if1 .left) (c .before .before .before .before .before .before .before .before .before .before .before .if2 .left) _ _ _ _ _ _ _ (c .before .before .before .before .before .before .before .before .before .turn .ensures e h)
-    (c .before .before .before .before .before .write .ensures) (c .before .has-lines .ensures) (c .refusal-number .ensures)
+    let written = c .before .before .before .before .before .before in
+    let taken = written .before .before .before .before in
+    let tests = taken .before .before .before .before in
+    given-answer e _ _ _ _ h (tests .before .if1 .left) (tests .if2 .left) _ _ _ _ _ _ (taken .take-line .ensures (e .circuit) (e .opened) (stands e _ _ h))
+    (written .write .ensures) (c .before .has-lines .ensures) (c .refusal-number .ensures)
 
 pub line-spec : {M : Type 1} → statement M
 line-spec =
@@ -39,7 +43,7 @@ line-spec =
     (tie.spec
     returns
     returns-2
-    turn-requires
+    take-line-requires
     write-requires
     has-lines-requires
     refusal-number-requires

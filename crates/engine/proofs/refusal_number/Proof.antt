@@ -7,7 +7,7 @@ use types.Run.{OneOf, miss}
 use Rattle.answers.specs.declared.Answer.{Answer}
 use Rattle.answers.specs.declared.Answer.the-variants as Answer
 use Rattle.answers.proofs.Answer.{the-type}
-use Rattle.engine.specs.Turns.{refusalNumber}
+use Rattle.engine.specs.Answering.{refusalNumber}
 use borrow.Author.Needs.{needs}
 use Rattle.engine.proofs.refusal_number.Statement.{statement}
 use Rattle.engine.proofs.refusal_number.Tie as tie

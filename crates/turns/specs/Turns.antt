@@ -1,0 +1,50 @@
+-- What a line does to the circuit and the open sum, and what it is answered (document 01, "Bracket lines", "Where a line is turned back").
+use mathlib.Core.Bool.{not}
+use mathlib.Core.List.{[], _∷_}
+use Prim.Native.Nat.{ℕ, zero, suc, _^_}
+use lib.Dec.{eqb}
+use lib.ListN.{length}
+use Rattle.circuit.specs.Polynomial.{polynomial}
+use Rattle.circuit.specs.Listing.{listing}
+use Rattle.held.specs.Circuit.{Circuit, newCircuit, withGates, withoutLast, withNewStart}
+use Rattle.lines.specs.Typed.{Typed, circuit, gate, layer, undo, start, opens, step, drop, terms}
+use Rattle.lines.specs.Spelling.{Reading, typed, refused}
+use Rattle.refusals.specs.Refusals.{refusalBy}
+use Rattle.answers.specs.declared.Answer.{Answer}
+use Rattle.answers.specs.declared.Answer.the-variants.{Ok, Left, Terms, Refused}
+use Rattle.sums.specs.Sums.{Opened, closed, isRunning, opening, stepped, stepAnswer}
+
+-- What a line leaves, and its answer.
+pub record Turn : Type 0 where
+  pub circuit : Circuit
+  pub opened : Opened
+  pub answer : Answer
+
+abbrev pub gives : Circuit → Opened → Answer → Turn
+gives c o a = record { circuit = c; opened = o; answer = a }
+
+-- What a form does that no place turns back. "`(left L)` when a sum is opened", all 2^m slices; `terms` is answered with the number of terms, and
+-- their lines are fetched.
+unfoldable pub accepted : Circuit → Opened → Typed → Turn
+accepted c o (circuit m) = gives (newCircuit m) closed Ok
+accepted c o (gate g) = gives (withGates (g ∷ []) c) o Ok
+accepted c o (layer gs) = gives (withGates gs c) o Ok
+accepted c o (undo k) = gives (withoutLast k c) o Ok
+accepted c o (start r b g) = gives (withNewStart (record { red = r; blue = b; green = g }) c) o Ok
+accepted c o (opens q) = gives c (opening c q) (Left (2 ^ c .m))
+accepted c o (step k) = gives c (stepped o k) (stepAnswer o k)
+accepted c o drop = gives c closed Ok
+accepted c o terms = gives c o (Terms (length (listing 16 (polynomial (c .gates)))))
+
+-- The refusal that a line gets, 0 for none. `room` is the lent history's length.
+unfoldable pub refusalOf : Circuit → Opened → ℕ → Reading → ℕ
+refusalOf c o room r = refusalBy (not (eqb (c .m) 0)) (isRunning o) (c .m) room (length (c .gates)) r
+
+-- A refusal "leaves circuit, history, start and open sum the same".
+unfoldable pub turnBy : ℕ → Circuit → Opened → Typed → Turn
+turnBy zero c o t = accepted c o t
+turnBy (suc n) c o t = gives c o (Refused (suc n))
+
+unfoldable pub turnOf : Circuit → Opened → ℕ → Reading → Turn
+turnOf c o room (typed t) = turnBy (refusalOf c o room (typed t)) c o t
+turnOf c o room (refused n) = gives c o (Refused n)
