@@ -19,10 +19,15 @@ cast-if1 c = omega (arith, ones-le 32 (c .cell .result) (omega arith))
 
 returns : tie.Need-returns
 returns c f e =
-    sym (entry-past (c .before .before .before .before .before .args .t1) (c .before .before .before .find .result .cell) (c .before .before .before .find .result .left)
-    (rw (c .before .cell .ensures) at (c .if1 .taken)))
-    ∙ sym (c .before .before .before .find .ensures .1)
-    ∙ entry-listing f (c .before .before .before .before .before .args .t1) (c .before .before .before .before .before .args .n) e
+    let read = c .before in
+    let found = read .before .before in
+    let start = found .before .before in
+    let words = start .args .t1 in
+    let at = found .find .result .cell in
+    let left = found .find .result .left in
+    sym (entry-past words at left (rw (read .cell .ensures) at (c .if1 .taken)))
+    ∙ sym (found .find .ensures .1)
+    ∙ entry-listing f words (start .args .n) e
 
 red-of-requires : tie.Need-red-of-requires
 red-of-requires c κs = search needs
@@ -38,13 +43,20 @@ gate-of-term-requires c κs = search needs
 
 returns-2 : tie.Need-returns-2
 returns-2 c f e =
-    ap Listed
-    (c .gate-of-term .ensures
-    ∙ cc)
-    ∙ sym (entry-here (c .before .before .before .before .before .before .before .before .before .args .t1) (c .before .before .before .before .before .before .before .find .result .cell)
-    (c .before .before .before .before .before .before .before .find .result .left) (rw (c .before .before .before .before .before .cell .ensures) at (c .before .before .before .before .if1 .left)))
-    ∙ sym (c .before .before .before .before .before .before .before .find .ensures .1)
-    ∙ entry-listing f (c .before .before .before .before .before .before .before .before .before .args .t1) (c .before .before .before .before .before .before .before .before .before .args .n) e
+    let selected = c .before in
+    let blue = selected .before in
+    let red = blue .before in
+    let tested = red .before in
+    let read = tested .before in
+    let found = read .before .before in
+    let start = found .before .before in
+    let words = start .args .t1 in
+    let at = found .find .result .cell in
+    let left = found .find .result .left in
+    ap Listed (rw (selected .select .ensures, blue .blue-of .ensures, red .red-of .ensures, read .cell .ensures) at (c .gate-of-term .ensures))
+    ∙ sym (entry-here words at left (rw (read .cell .ensures) at (tested .if1 .left)))
+    ∙ sym (found .find .ensures .1)
+    ∙ entry-listing f words (start .args .n) e
 
 pub entry-spec : {M : Type 1} → statement M
 entry-spec =
