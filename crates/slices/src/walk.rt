@@ -1,6 +1,7 @@
 // From slice to slice: a slice's packed rows, and those of the slice after it.
 ghost use mathlib.Core.Path.{_≡_};
 ghost use Prim.Native.Nat.{ℕ, _+_, _-_, _*_, _≤_, _<_};
+ghost use lib.Bits.{bitXor};
 ghost use lib.ListN.{getD};
 ghost use Rattle.gf2.specs.Digits.{highFirst};
 ghost use Rattle.circuit.specs.declared.Colour.{Colour};
@@ -9,19 +10,26 @@ ghost use Rattle.slices.specs.Slices.{coefficient};
 ghost use Rattle.slices.specs.Packing.{packedWord, packedRows, tableOf};
 ghost use Rattle.slices.specs.Walking.{lastPositions, rowsPlus, rowsNext};
 
+// Word `w` of the rows with those at index `k` of a table added.
+fn moved_word(rows: [u64; 6], table: &[u64; 102], k: usize, w: usize) -> u64
+    requires { ⌜ (k ≤ 16) × (w < 6) ⌝ }
+    ensures { λ r. ⌜ r ≡ bitXor (getD rows w 0) (getD (now (table .entry)) (6 * k + w) 0) ⌝ }
+{
+    rows[w] ^ table[6 * k + w]
+}
+
 // The rows with those at index `k` of a table added.
 fn moved(rows: [u64; 6], table: &[u64; 102], k: usize) -> [u64; 6]
     requires { ⌜ k ≤ 16 ⌝ }
     ensures { λ r. ⌜ r ≡ rowsPlus rows (now (table .entry)) k ⌝ }
 {
-    let at = 6 * k;
     [
-        rows[0] ^ table[at],
-        rows[1] ^ table[at + 1],
-        rows[2] ^ table[at + 2],
-        rows[3] ^ table[at + 3],
-        rows[4] ^ table[at + 4],
-        rows[5] ^ table[at + 5],
+        moved_word(rows, table, k, 0),
+        moved_word(rows, table, k, 1),
+        moved_word(rows, table, k, 2),
+        moved_word(rows, table, k, 3),
+        moved_word(rows, table, k, 4),
+        moved_word(rows, table, k, 5),
     ]
 }
 
