@@ -15,11 +15,12 @@ use Rattle.text.proofs.ItemsSpelled.{colour-then}
 use Rattle.text.proofs.ItemCases.{keyword-cases, colour-cases}
 use Rattle.lines.specs.declared.Form.{Form}
 use Rattle.lines.specs.declared.Form.the-variants as Form
+use Rattle.lines.specs.declared.forms.Numbered.the-variants.{Circuit, Undo, Step}
 use Rattle.lines.specs.Typed.{amp, part, Typed, circuit, gate, layer, undo, start, opens, step, drop as dropped, terms, stringsOf, row}
 use Rattle.lines.specs.Spelling.{spelled, allSome, Spells, colourTwice, anyColourTwice}
 use Rattle.lines.specs.Held.{heldGate, held}
 use Rattle.lines.specs.Gates.{layerGates}
-use Rattle.lines.specs.Forms.{circuitFrom, undoFrom, stepFrom, startFrom, ampFrom, partFrom, layerFrom, shapeOf}
+use Rattle.lines.specs.Forms.{numberedForm, numberFrom, startFrom, ampFrom, partFrom, layerFrom, workShape, stringsShape, shapeOf}
 use Rattle.lines.proofs.LayerSpelling.{Gates, layer-read, layer-spelled, gates-read}
 use Rattle.lines.proofs.FormSpelling.{ended-read, number-form-read, two-strings-read, three-strings-read, gate-line-read, ended-cases, number-form-cases, two-strings-cases, three-strings-cases, gate-line-cases}
 
@@ -30,7 +31,7 @@ abbrev pub readAs : Typed → Form
 readAs t = cond (anyColourTwice (row t .gates)) (Form.Refused 5) (held t)
 
 pub read-spelled : (t : Typed) → allSome (row t .strings) ≡ true → shapeOf (spelled t) ≡ readAs t
-unfolding shapeOf readKeyword begins spelled spelledGate row stringsOf anyColourTwice held circuitFrom undoFrom stepFrom startFrom ampFrom partFrom
+unfolding shapeOf stringsShape workShape readKeyword begins spelled spelledGate row stringsOf anyColourTwice held numberedForm numberFrom startFrom ampFrom partFrom
 read-spelled (circuit m) h = number-form-read (spelled (circuit m)) 9 m Form.Circuit refl
 read-spelled (gate (Ccz i j k)) h = gate-line-read (Ccz i j k) ∙ rw (or-false (colourTwice (Ccz i j k)))
 read-spelled (gate (Cz p q)) h = gate-line-read (Cz p q) ∙ rw (or-false (colourTwice (Cz p q)))
@@ -65,16 +66,16 @@ module _ (l : List ℕ) where
   whole : (key : List ℕ) (a : ℕ) (rest : List ℕ) → l ≡ key ++ drop a l → drop a l ≡ rest → l ≡ key ++ rest
   whole key a rest e r = e ∙ ap (λ (x : List ℕ). key ++ x) r
 
-  circuit-spelled : (a : ℕ) → l ≡ bytes "(circuit " ++ drop a l → Spelled (circuitFrom l a)
-  unfolding circuitFrom row stringsOf allSome spelled
+  circuit-spelled : (a : ℕ) → l ≡ bytes "(circuit " ++ drop a l → Spelled (numberFrom Circuit l a)
+  unfolding numberedForm numberFrom row stringsOf allSome spelled
   circuit-spelled a e = number-form-cases Spelled l four Form.Circuit a λ n r. spells _ (circuit n) refl (whole (bytes "(circuit ") a _ e r)
 
-  undo-spelled : (a : ℕ) → l ≡ bytes "(undo " ++ drop a l → Spelled (undoFrom l a)
-  unfolding undoFrom row stringsOf allSome spelled
+  undo-spelled : (a : ℕ) → l ≡ bytes "(undo " ++ drop a l → Spelled (numberFrom Undo l a)
+  unfolding numberedForm numberFrom row stringsOf allSome spelled
   undo-spelled a e = number-form-cases Spelled l four Form.Undo a λ n r. spells _ (undo n) refl (whole (bytes "(undo ") a _ e r)
 
-  step-spelled : (a : ℕ) → l ≡ bytes "(step " ++ drop a l → Spelled (stepFrom l a)
-  unfolding stepFrom row stringsOf allSome spelled
+  step-spelled : (a : ℕ) → l ≡ bytes "(step " ++ drop a l → Spelled (numberFrom Step l a)
+  unfolding numberedForm numberFrom row stringsOf allSome spelled
   step-spelled a e = number-form-cases Spelled l four Form.Step a λ n r. spells _ (step n) refl (whole (bytes "(step ") a _ e r)
 
   start-spelled : (a : ℕ) → l ≡ bytes "(start" ++ drop a l → Spelled (startFrom l a)
@@ -104,7 +105,7 @@ module _ (l : List ℕ) where
       go (inr r) = spells _ (layer (r .0)) refl (whole (bytes "(layer") a _ e (r .1))
 
   pub spelled-read : (shapeOf l ≡ Form.Refused 4) ⊎ ((t : Typed) × Spells l t)
-  unfolding shapeOf row stringsOf allSome spelled
+  unfolding shapeOf stringsShape workShape row stringsOf allSome spelled
   spelled-read =
       keyword-cases Spelled l 0 _ (bytes "(circuit ") _
       (keyword-cases Spelled l 0 _ (bytes "(layer") _

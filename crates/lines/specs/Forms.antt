@@ -6,6 +6,8 @@ use lib.Dec.{eqb}
 use lib.ListN.{length, drop}
 use Rattle.text.specs.Spelling.{bytes}
 use Rattle.text.specs.Reading.{readKeyword, readNumber, readColour, spacedBits, afterKeyword, withNumber, withColour, withBits}
+use Rattle.lines.specs.declared.forms.Numbered.{Numbered}
+use Rattle.lines.specs.declared.forms.Numbered.the-variants.{Circuit, Undo, Step}
 use Rattle.lines.specs.declared.Form.{Form}
 use Rattle.lines.specs.declared.Form.the-variants as Form
 use Rattle.lines.specs.Spelling.{colourTwice}
@@ -20,14 +22,13 @@ ended l at f = cond (eqb at (length l)) f (Form.Refused 4)
 unfoldable pub closed : List ℕ → ℕ → Form → Form
 closed l at f = afterKeyword (Form.Refused 4) (readKeyword l at (bytes ")")) λ e. ended l e f
 
-unfoldable pub circuitFrom : List ℕ → ℕ → Form
-circuitFrom l a = withNumber (Form.Refused 4) (readNumber l a) λ k b. closed l b (Form.Circuit k)
+unfoldable pub numberedForm : Numbered → ℕ → Form
+numberedForm Circuit n = Form.Circuit n
+numberedForm Undo n = Form.Undo n
+numberedForm Step n = Form.Step n
 
-unfoldable pub undoFrom : List ℕ → ℕ → Form
-undoFrom l a = withNumber (Form.Refused 4) (readNumber l a) λ k b. closed l b (Form.Undo k)
-
-unfoldable pub stepFrom : List ℕ → ℕ → Form
-stepFrom l a = withNumber (Form.Refused 4) (readNumber l a) λ k b. closed l b (Form.Step k)
+unfoldable pub numberFrom : Numbered → List ℕ → ℕ → Form
+numberFrom kind l a = withNumber (Form.Refused 4) (readNumber l a) λ n b. closed l b (numberedForm kind n)
 
 unfoldable pub startFrom : List ℕ → ℕ → Form
 startFrom l a =
@@ -66,23 +67,27 @@ gateLine l =
     withGate (Form.Refused 4) (readGate l) λ g e.
     ended l e (cond (colourTwice g) (Form.Refused 5) (gateForm g))
 
--- A line by its first bytes: refusals 4 and 5.
+-- A line by its first bytes, three keywords at a time: refusals 4 and 5.
+unfoldable pub workShape : List ℕ → Form
+workShape l =
+    afterKeyword
+    (afterKeyword
+    (afterKeyword (gateLine l) (readKeyword l 0 (bytes "(terms)")) λ a. ended l a Form.Terms)
+    (readKeyword l 0 (bytes "(drop)")) λ a. ended l a Form.Drop)
+    (readKeyword l 0 (bytes "(step ")) (numberFrom Step l)
+
+unfoldable pub stringsShape : List ℕ → Form
+stringsShape l =
+    afterKeyword
+    (afterKeyword
+    (afterKeyword (workShape l) (readKeyword l 0 (bytes "(part ")) (partFrom l))
+    (readKeyword l 0 (bytes "(amp ")) (ampFrom l))
+    (readKeyword l 0 (bytes "(start")) (startFrom l)
+
 unfoldable pub shapeOf : List ℕ → Form
 shapeOf l =
     afterKeyword
     (afterKeyword
-    (afterKeyword
-    (afterKeyword
-    (afterKeyword
-    (afterKeyword
-    (afterKeyword
-    (afterKeyword
-    (afterKeyword (gateLine l) (readKeyword l 0 (bytes "(terms)")) λ a. ended l a Form.Terms)
-    (readKeyword l 0 (bytes "(drop)")) λ a. ended l a Form.Drop)
-    (readKeyword l 0 (bytes "(step ")) (stepFrom l))
-    (readKeyword l 0 (bytes "(part ")) (partFrom l))
-    (readKeyword l 0 (bytes "(amp ")) (ampFrom l))
-    (readKeyword l 0 (bytes "(start")) (startFrom l))
-    (readKeyword l 0 (bytes "(undo ")) (undoFrom l))
+    (afterKeyword (stringsShape l) (readKeyword l 0 (bytes "(undo ")) (numberFrom Undo l))
     (readKeyword l 0 (bytes "(layer")) λ a. layerFrom 0 0 false (drop a l))
-    (readKeyword l 0 (bytes "(circuit ")) (circuitFrom l)
+    (readKeyword l 0 (bytes "(circuit ")) (numberFrom Circuit l)

@@ -8,6 +8,7 @@ ghost use Rattle.lines.specs.Forms as specs;
 use crate::Form;
 use crate::GateAt;
 use crate::gates::first_gate;
+use crate::read_byte;
 use circuit::Gate;
 use circuit::same_colour;
 use text::BitsAt;
@@ -15,9 +16,15 @@ use text::ColourAt;
 use text::KeywordAt;
 use text::NumberAt;
 use text::read_colour;
-use text::read_keyword;
 use text::read_number;
 use text::spaced_bits;
+
+// The forms whose operand is a number.
+pub(crate) enum Numbered {
+    Circuit,
+    Undo,
+    Step,
+}
 
 pub(crate) fn ended(line: &[u8], at: usize, form: Form) -> Form
     ensures { λ r. ⌜ r ≡ specs.ended (now (line .entry)) at form ⌝ }
@@ -31,37 +38,29 @@ pub(crate) fn ended(line: &[u8], at: usize, form: Form) -> Form
 fn closed(line: &[u8], at: usize, form: Form) -> Form
     ensures { λ r. ⌜ r ≡ specs.closed (now (line .entry)) at form ⌝ }
 {
-    let KeywordAt::Ends(e) = read_keyword(line, at, b")") else {
+    let KeywordAt::Ends(e) = read_byte(line, at, b')') else {
         return Form::Refused(4);
     };
     ended(line, e, form)
 }
 
-pub(crate) fn circuit(line: &[u8], a: usize) -> Form
-    ensures { λ r. ⌜ r ≡ specs.circuitFrom (now (line .entry)) a ⌝ }
+fn with_number(kind: Numbered, n: usize) -> Form
+    ensures { λ r. ⌜ r ≡ specs.numberedForm kind n ⌝ }
 {
-    let NumberAt::Read { value: m, next: b } = read_number(line, a) else {
-        return Form::Refused(4);
-    };
-    closed(line, b, Form::Circuit(m))
+    match kind {
+        Numbered::Circuit => Form::Circuit(n),
+        Numbered::Undo => Form::Undo(n),
+        Numbered::Step => Form::Step(n),
+    }
 }
 
-pub(crate) fn undo(line: &[u8], a: usize) -> Form
-    ensures { λ r. ⌜ r ≡ specs.undoFrom (now (line .entry)) a ⌝ }
+pub(crate) fn number_form(line: &[u8], a: usize, kind: Numbered) -> Form
+    ensures { λ r. ⌜ r ≡ specs.numberFrom kind (now (line .entry)) a ⌝ }
 {
-    let NumberAt::Read { value: k, next: b } = read_number(line, a) else {
+    let NumberAt::Read { value, next } = read_number(line, a) else {
         return Form::Refused(4);
     };
-    closed(line, b, Form::Undo(k))
-}
-
-pub(crate) fn step(line: &[u8], a: usize) -> Form
-    ensures { λ r. ⌜ r ≡ specs.stepFrom (now (line .entry)) a ⌝ }
-{
-    let NumberAt::Read { value: k, next: b } = read_number(line, a) else {
-        return Form::Refused(4);
-    };
-    closed(line, b, Form::Step(k))
+    closed(line, next, with_number(kind, value))
 }
 
 pub(crate) fn start(line: &[u8], a: usize) -> Form

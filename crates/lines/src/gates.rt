@@ -3,6 +3,7 @@ ghost use mathlib.Core.Path.{_≡_};
 ghost use Rattle.lines.specs.Gates.{readCcz, readSpot, readCz, readCnot, readGate, gatePart, layerGateAt};
 use crate::GateAt;
 use crate::SpotAt;
+use crate::read_byte;
 use circuit::Gate;
 use circuit::Spot;
 use text::ColourAt;
@@ -25,7 +26,7 @@ fn ccz(line: &[u8], a: usize) -> GateAt
     let NumberAt::Read { value: k, next: e } = spaced_number(line, d) else {
         return GateAt::Missing;
     };
-    let KeywordAt::Ends(next) = read_keyword(line, e, b")") else {
+    let KeywordAt::Ends(next) = read_byte(line, e, b')') else {
         return GateAt::Missing;
     };
     GateAt::Read {
@@ -37,7 +38,7 @@ fn ccz(line: &[u8], a: usize) -> GateAt
 fn spot(line: &[u8], at: usize) -> SpotAt
     ensures { λ r. ⌜ r ≡ readSpot (now (line .entry)) at ⌝ }
 {
-    let KeywordAt::Ends(a) = read_keyword(line, at, b"(") else {
+    let KeywordAt::Ends(a) = read_byte(line, at, b'(') else {
         return SpotAt::Missing;
     };
     let ColourAt::Read { colour, next: b } = read_colour(line, a) else {
@@ -50,7 +51,7 @@ fn spot(line: &[u8], at: usize) -> SpotAt
     else {
         return SpotAt::Missing;
     };
-    let KeywordAt::Ends(next) = read_keyword(line, d, b")") else {
+    let KeywordAt::Ends(next) = read_byte(line, d, b')') else {
         return SpotAt::Missing;
     };
     SpotAt::Read {
@@ -65,13 +66,13 @@ fn cz(line: &[u8], a: usize) -> GateAt
     let SpotAt::Read { spot: p, next: b } = spot(line, a) else {
         return GateAt::Missing;
     };
-    let KeywordAt::Ends(d) = read_keyword(line, b, b" ") else {
+    let KeywordAt::Ends(d) = read_byte(line, b, b' ') else {
         return GateAt::Missing;
     };
     let SpotAt::Read { spot: q, next: e } = spot(line, d) else {
         return GateAt::Missing;
     };
-    let KeywordAt::Ends(next) = read_keyword(line, e, b")") else {
+    let KeywordAt::Ends(next) = read_byte(line, e, b')') else {
         return GateAt::Missing;
     };
     GateAt::Read {
@@ -100,7 +101,7 @@ fn cnot(line: &[u8], a: usize) -> GateAt
     else {
         return GateAt::Missing;
     };
-    let KeywordAt::Ends(next) = read_keyword(line, e, b")") else {
+    let KeywordAt::Ends(next) = read_byte(line, e, b')') else {
         return GateAt::Missing;
     };
     GateAt::Read {
@@ -140,7 +141,7 @@ pub fn gate_part(line: &[u8]) -> &[u8]
 pub fn layer_gate(line: &[u8], at: usize) -> GateAt
     ensures { λ r. ⌜ r ≡ layerGateAt (now (line .entry)) at ⌝ }
 {
-    let KeywordAt::Ends(from) = read_keyword(line, at, b" ") else {
+    let KeywordAt::Ends(from) = read_byte(line, at, b' ') else {
         return GateAt::Missing;
     };
     let part = gate_part(&line[from..]);

@@ -1,9 +1,12 @@
 // A line read as a form: refusals 2 to 5 of document 01.
+ghost use mathlib.Core.List.{[], _∷_};
 ghost use mathlib.Core.Path.{_≡_};
-ghost use Rattle.lines.specs.Forms.{shapeOf};
+ghost use Rattle.text.specs.Reading.{readKeyword};
+ghost use Rattle.lines.specs.Forms.{workShape, stringsShape, shapeOf};
 ghost use Rattle.lines.specs.Held.{heldReading};
 ghost use Rattle.lines.specs.Spelling.{isAllowed, allAllowed};
 ghost use Rattle.lines.specs.Readings.{readingOf};
+use crate::forms::Numbered;
 use circuit::Colour;
 use circuit::Gate;
 use circuit::Spot;
@@ -95,19 +98,33 @@ fn all_allowed(line: &[u8]) -> bool
     true
 }
 
-// "Keywords are compared byte for byte with the spellings above."
+// A keyword of one byte.
+fn read_byte(line: &[u8], at: usize, b: u8) -> KeywordAt
+    ensures { λ r. ⌜ r ≡ readKeyword (now (line .entry)) at (b ∷ []) ⌝ }
+{
+    read_keyword(line, at, &[b])
+}
+
+// "Keywords are compared byte for byte with the spellings above." First those that build a circuit, but for its gates.
 fn shape(line: &[u8]) -> Form
     ensures { λ r. ⌜ r ≡ shapeOf (now (line .entry)) ⌝ }
 {
     if let KeywordAt::Ends(a) = read_keyword(line, 0, b"(circuit ") {
-        return forms::circuit(line, a);
+        return forms::number_form(line, a, Numbered::Circuit);
     }
     if let KeywordAt::Ends(a) = read_keyword(line, 0, b"(layer") {
         return forms::layer(line, a);
     }
     if let KeywordAt::Ends(a) = read_keyword(line, 0, b"(undo ") {
-        return forms::undo(line, a);
+        return forms::number_form(line, a, Numbered::Undo);
     }
+    shape_of_strings(line)
+}
+
+// Those whose operands are bit strings.
+fn shape_of_strings(line: &[u8]) -> Form
+    ensures { λ r. ⌜ r ≡ stringsShape (now (line .entry)) ⌝ }
+{
     if let KeywordAt::Ends(a) = read_keyword(line, 0, b"(start") {
         return forms::start(line, a);
     }
@@ -117,8 +134,15 @@ fn shape(line: &[u8]) -> Form
     if let KeywordAt::Ends(a) = read_keyword(line, 0, b"(part ") {
         return forms::part(line, a);
     }
+    shape_of_work(line)
+}
+
+// Those that go on with what is there, and last the gates.
+fn shape_of_work(line: &[u8]) -> Form
+    ensures { λ r. ⌜ r ≡ workShape (now (line .entry)) ⌝ }
+{
     if let KeywordAt::Ends(a) = read_keyword(line, 0, b"(step ") {
-        return forms::step(line, a);
+        return forms::number_form(line, a, Numbered::Step);
     }
     if let KeywordAt::Ends(a) = read_keyword(line, 0, b"(drop)") {
         return forms::ended(line, a, Form::Drop);

@@ -1,4 +1,4 @@
--- The nine keywords are tried in the order of `shapeOf`, and then the gates.
+-- Three keywords are tried in the order of `shapeOf`, and then the other forms.
 use mathlib.Core.Path.{sym, _∙_}
 use Rattle.lines.specs.Forms.{shapeOf}
 use borrow.Author.Needs.{needs}
@@ -14,12 +14,12 @@ read-keyword-requires c κs = search needs
 enum-known-a : tie.Need-enum-known-a
 enum-known-a c = search needs
 
-circuit-requires : tie.Need-circuit-requires
-circuit-requires c κs = search needs
+number-form-requires : tie.Need-number-form-requires
+number-form-requires c κs = search needs
 
 returns : tie.Need-returns
 unfolding shapeOf
-returns c = rw (sym (c .before .before .before .before .read-keyword .ensures) ∙ c .before .before .a .given .1) (c .circuit .ensures)
+returns c = rw (sym (c .before .before .before .before .read-keyword .ensures) ∙ c .before .before .a .given .1) (c .number-form .ensures)
 
 enum-told : tie.Need-enum-told
 enum-told c = search needs
@@ -39,9 +39,11 @@ layer-requires c κs = search needs
 returns-2 : tie.Need-returns-2
 unfolding shapeOf
 returns-2 c =
+    let second = c .before .before in
+    let first = second .before .before .before .before in
     rw (
-      sym (c .before .before .before .before .before .before .before .before .read-keyword .ensures) ∙ c .before .before .before .before .before .before .enum-told .given .1,
-      sym (c .before .before .before .before .read-keyword2 .ensures) ∙ c .before .before .a2 .given .1,
+      sym (first .before .before .read-keyword .ensures) ∙ first .enum-told .given .1,
+      sym (second .before .before .read-keyword2 .ensures) ∙ second .a2 .given .1,
     )
     (c .layer .ensures)
 
@@ -57,211 +59,40 @@ read-keyword-requires-3 c κs = search needs
 enum-known-a-3 : tie.Need-enum-known-a-3
 enum-known-a-3 c = search needs
 
-undo-requires : tie.Need-undo-requires
-undo-requires c κs = search needs
+number-form-requires-2 : tie.Need-number-form-requires-2
+number-form-requires-2 c κs = search needs
 
 returns-3 : tie.Need-returns-3
 unfolding shapeOf
 returns-3 c =
+    let third = c .before .before in
+    let second = third .before .before .before .before in
+    let first = second .before .before .before .before in
     rw (
-      sym (c .before .before .before .before .before .before .before .before .before .before .before .before .read-keyword .ensures) ∙ c .before .before .before .before .before .before .before .before .before .before .enum-told .given .1,
-      sym (c .before .before .before .before .before .before .before .before .read-keyword2 .ensures) ∙ c .before .before .before .before .before .before .enum-told2 .given .1,
-      sym (c .before .before .before .before .read-keyword3 .ensures) ∙ c .before .before .a3 .given .1,
+      sym (first .before .before .read-keyword .ensures) ∙ first .enum-told .given .1,
+      sym (second .before .before .read-keyword2 .ensures) ∙ second .enum-told2 .given .1,
+      sym (third .before .before .read-keyword3 .ensures) ∙ third .a3 .given .1,
     )
-    (c .undo .ensures)
+    (c .number-form2 .ensures)
 
 enum-told-3 : tie.Need-enum-told-3
 enum-told-3 c = search needs
 
-slice-aggregate-read-keyword-4 : tie.Need-slice-aggregate-read-keyword-4
-slice-aggregate-read-keyword-4 c = search needs
-
-read-keyword-requires-4 : tie.Need-read-keyword-requires-4
-read-keyword-requires-4 c κs = search needs
-
-enum-known-a-4 : tie.Need-enum-known-a-4
-enum-known-a-4 c = search needs
-
-start-requires : tie.Need-start-requires
-start-requires c κs = search needs
+shape-of-strings-requires : tie.Need-shape-of-strings-requires
+shape-of-strings-requires c κs = search needs
 
 returns-4 : tie.Need-returns-4
 unfolding shapeOf
 returns-4 c =
+    let third = c .before in
+    let second = third .before .before .before .before in
+    let first = second .before .before .before .before in
     rw (
-      sym (c .before .before .before .before .before .before .before .before .before .before .before .before .before .before .before .before .read-keyword .ensures) ∙ c .before .before .before .before .before .before .before .before .before .before .before .before .before .before .enum-told .given .1,
-      sym (c .before .before .before .before .before .before .before .before .before .before .before .before .read-keyword2 .ensures) ∙ c .before .before .before .before .before .before .before .before .before .before .enum-told2 .given .1,
-      sym (c .before .before .before .before .before .before .before .before .read-keyword3 .ensures) ∙ c .before .before .before .before .before .before .enum-told3 .given .1,
-      sym (c .before .before .before .before .read-keyword4 .ensures) ∙ c .before .before .a4 .given .1,
+      sym (first .before .before .read-keyword .ensures) ∙ first .enum-told .given .1,
+      sym (second .before .before .read-keyword2 .ensures) ∙ second .enum-told2 .given .1,
+      sym (third .before .before .read-keyword3 .ensures) ∙ third .enum-told3 .given .1,
     )
-    (c .start .ensures)
-
-enum-told-4 : tie.Need-enum-told-4
-enum-told-4 c = search needs
-
-slice-aggregate-read-keyword-5 : tie.Need-slice-aggregate-read-keyword-5
-slice-aggregate-read-keyword-5 c = search needs
-
-read-keyword-requires-5 : tie.Need-read-keyword-requires-5
-read-keyword-requires-5 c κs = search needs
-
-enum-known-a-5 : tie.Need-enum-known-a-5
-enum-known-a-5 c = search needs
-
-amp-requires : tie.Need-amp-requires
-amp-requires c κs = search needs
-
-returns-5 : tie.Need-returns-5
-unfolding shapeOf
-returns-5 c =
-    rw (
-      sym (c .before .before .before .before .before .before .before .before .before .before .before .before .before .before .before .before .before .before .before .before .read-keyword .ensures) ∙ c .before .before .before .before .before .before .before .before .before .before .before .before .before .before .before .before .before .before .enum-told .given .1,
-      sym (c .before .before .before .before .before .before .before .before .before .before .before .before .before .before .before .before .read-keyword2 .ensures) ∙ c .before .before .before .before .before .before .before .before .before .before .before .before .before .before .enum-told2 .given .1,
-      sym (c .before .before .before .before .before .before .before .before .before .before .before .before .read-keyword3 .ensures) ∙ c .before .before .before .before .before .before .before .before .before .before .enum-told3 .given .1,
-      sym (c .before .before .before .before .before .before .before .before .read-keyword4 .ensures) ∙ c .before .before .before .before .before .before .enum-told4 .given .1,
-      sym (c .before .before .before .before .read-keyword5 .ensures) ∙ c .before .before .a5 .given .1,
-    )
-    (c .amp .ensures)
-
-enum-told-5 : tie.Need-enum-told-5
-enum-told-5 c = search needs
-
-slice-aggregate-read-keyword-6 : tie.Need-slice-aggregate-read-keyword-6
-slice-aggregate-read-keyword-6 c = search needs
-
-read-keyword-requires-6 : tie.Need-read-keyword-requires-6
-read-keyword-requires-6 c κs = search needs
-
-enum-known-a-6 : tie.Need-enum-known-a-6
-enum-known-a-6 c = search needs
-
-part-requires : tie.Need-part-requires
-part-requires c κs = search needs
-
-returns-6 : tie.Need-returns-6
-unfolding shapeOf
-returns-6 c =
-    rw (
-      sym (c .before .before .before .before .before .before .before .before .before .before .before .before .before .before .before .before .before .before .before .before .before .before .before .before .read-keyword .ensures) ∙ c .before .before .before .before .before .before .before .before .before .before .before .before .before .before .before .before .before .before .before .before .before .before .enum-told .given .1,
-      sym (c .before .before .before .before .before .before .before .before .before .before .before .before .before .before .before .before .before .before .before .before .read-keyword2 .ensures) ∙ c .before .before .before .before .before .before .before .before .before .before .before .before .before .before .before .before .before .before .enum-told2 .given .1,
-      sym (c .before .before .before .before .before .before .before .before .before .before .before .before .before .before .before .before .read-keyword3 .ensures) ∙ c .before .before .before .before .before .before .before .before .before .before .before .before .before .before .enum-told3 .given .1,
-      sym (c .before .before .before .before .before .before .before .before .before .before .before .before .read-keyword4 .ensures) ∙ c .before .before .before .before .before .before .before .before .before .before .enum-told4 .given .1,
-      sym (c .before .before .before .before .before .before .before .before .read-keyword5 .ensures) ∙ c .before .before .before .before .before .before .enum-told5 .given .1,
-      sym (c .before .before .before .before .read-keyword6 .ensures) ∙ c .before .before .a6 .given .1,
-    )
-    (c .part .ensures)
-
-enum-told-6 : tie.Need-enum-told-6
-enum-told-6 c = search needs
-
-slice-aggregate-read-keyword-7 : tie.Need-slice-aggregate-read-keyword-7
-slice-aggregate-read-keyword-7 c = search needs
-
-read-keyword-requires-7 : tie.Need-read-keyword-requires-7
-read-keyword-requires-7 c κs = search needs
-
-enum-known-a-7 : tie.Need-enum-known-a-7
-enum-known-a-7 c = search needs
-
-step-requires : tie.Need-step-requires
-step-requires c κs = search needs
-
-returns-7 : tie.Need-returns-7
-unfolding shapeOf
-returns-7 c =
-    rw (
-      sym (c .before .before .before .before .before .before .before .before .before .before .before .before .before .before .before .before .before .before .before .before .before .before .before .before .before .before .before .before .read-keyword .ensures) ∙ c .before .before .before .before .before .before .before .before .before .before .before .before .before .before .before .before .before .before .before .before .before .before .before .before .before .before .enum-told .given .1,
-      sym (c .before .before .before .before .before .before .before .before .before .before .before .before .before .before .before .before .before .before .before .before .before .before .before .before .read-keyword2 .ensures) ∙ c .before .before .before .before .before .before .before .before .before .before .before .before .before .before .before .before .before .before .before .before .before .before .enum-told2 .given .1,
-      sym (c .before .before .before .before .before .before .before .before .before .before .before .before .before .before .before .before .before .before .before .before .read-keyword3 .ensures) ∙ c .before .before .before .before .before .before .before .before .before .before .before .before .before .before .before .before .before .before .enum-told3 .given .1,
-      sym (c .before .before .before .before .before .before .before .before .before .before .before .before .before .before .before .before .read-keyword4 .ensures) ∙ c .before .before .before .before .before .before .before .before .before .before .before .before .before .before .enum-told4 .given .1,
-      sym (c .before .before .before .before .before .before .before .before .before .before .before .before .read-keyword5 .ensures) ∙ c .before .before .before .before .before .before .before .before .before .before .enum-told5 .given .1,
-      sym (c .before .before .before .before .before .before .before .before .read-keyword6 .ensures) ∙ c .before .before .before .before .before .before .enum-told6 .given .1,
-      sym (c .before .before .before .before .read-keyword7 .ensures) ∙ c .before .before .a7 .given .1,
-    )
-    (c .step .ensures)
-
-enum-told-7 : tie.Need-enum-told-7
-enum-told-7 c = search needs
-
-slice-aggregate-read-keyword-8 : tie.Need-slice-aggregate-read-keyword-8
-slice-aggregate-read-keyword-8 c = search needs
-
-read-keyword-requires-8 : tie.Need-read-keyword-requires-8
-read-keyword-requires-8 c κs = search needs
-
-enum-known-a-8 : tie.Need-enum-known-a-8
-enum-known-a-8 c = search needs
-
-ended-requires : tie.Need-ended-requires
-ended-requires c κs = search needs
-
-returns-8 : tie.Need-returns-8
-unfolding shapeOf
-returns-8 c =
-    rw (
-      sym (c .before .before .before .before .before .before .before .before .before .before .before .before .before .before .before .before .before .before .before .before .before .before .before .before .before .before .before .before .before .before .before .before .read-keyword .ensures) ∙ c .before .before .before .before .before .before .before .before .before .before .before .before .before .before .before .before .before .before .before .before .before .before .before .before .before .before .before .before .before .before .enum-told .given .1,
-      sym (c .before .before .before .before .before .before .before .before .before .before .before .before .before .before .before .before .before .before .before .before .before .before .before .before .before .before .before .before .read-keyword2 .ensures) ∙ c .before .before .before .before .before .before .before .before .before .before .before .before .before .before .before .before .before .before .before .before .before .before .before .before .before .before .enum-told2 .given .1,
-      sym (c .before .before .before .before .before .before .before .before .before .before .before .before .before .before .before .before .before .before .before .before .before .before .before .before .read-keyword3 .ensures) ∙ c .before .before .before .before .before .before .before .before .before .before .before .before .before .before .before .before .before .before .before .before .before .before .enum-told3 .given .1,
-      sym (c .before .before .before .before .before .before .before .before .before .before .before .before .before .before .before .before .before .before .before .before .read-keyword4 .ensures) ∙ c .before .before .before .before .before .before .before .before .before .before .before .before .before .before .before .before .before .before .enum-told4 .given .1,
-      sym (c .before .before .before .before .before .before .before .before .before .before .before .before .before .before .before .before .read-keyword5 .ensures) ∙ c .before .before .before .before .before .before .before .before .before .before .before .before .before .before .enum-told5 .given .1,
-      sym (c .before .before .before .before .before .before .before .before .before .before .before .before .read-keyword6 .ensures) ∙ c .before .before .before .before .before .before .before .before .before .before .enum-told6 .given .1,
-      sym (c .before .before .before .before .before .before .before .before .read-keyword7 .ensures) ∙ c .before .before .before .before .before .before .enum-told7 .given .1,
-      sym (c .before .before .before .before .read-keyword8 .ensures) ∙ c .before .before .a8 .given .1,
-    )
-    (c .ended .ensures)
-
-enum-told-8 : tie.Need-enum-told-8
-enum-told-8 c = search needs
-
-slice-aggregate-read-keyword-9 : tie.Need-slice-aggregate-read-keyword-9
-slice-aggregate-read-keyword-9 c = search needs
-
-read-keyword-requires-9 : tie.Need-read-keyword-requires-9
-read-keyword-requires-9 c κs = search needs
-
-enum-known-a-9 : tie.Need-enum-known-a-9
-enum-known-a-9 c = search needs
-
-ended-requires-2 : tie.Need-ended-requires-2
-ended-requires-2 c κs = search needs
-
-returns-9 : tie.Need-returns-9
-unfolding shapeOf
-returns-9 c =
-    rw (
-      sym (c .before .before .before .before .before .before .before .before .before .before .before .before .before .before .before .before .before .before .before .before .before .before .before .before .before .before .before .before .before .before .before .before .before .before .before .before .read-keyword .ensures) ∙ c .before .before .before .before .before .before .before .before .before .before .before .before .before .before .before .before .before .before .before .before .before .before .before .before .before .before .before .before .before .before .before .before .before .before .enum-told .given .1,
-      sym (c .before .before .before .before .before .before .before .before .before .before .before .before .before .before .before .before .before .before .before .before .before .before .before .before .before .before .before .before .before .before .before .before .read-keyword2 .ensures) ∙ c .before .before .before .before .before .before .before .before .before .before .before .before .before .before .before .before .before .before .before .before .before .before .before .before .before .before .before .before .before .before .enum-told2 .given .1,
-      sym (c .before .before .before .before .before .before .before .before .before .before .before .before .before .before .before .before .before .before .before .before .before .before .before .before .before .before .before .before .read-keyword3 .ensures) ∙ c .before .before .before .before .before .before .before .before .before .before .before .before .before .before .before .before .before .before .before .before .before .before .before .before .before .before .enum-told3 .given .1,
-      sym (c .before .before .before .before .before .before .before .before .before .before .before .before .before .before .before .before .before .before .before .before .before .before .before .before .read-keyword4 .ensures) ∙ c .before .before .before .before .before .before .before .before .before .before .before .before .before .before .before .before .before .before .before .before .before .before .enum-told4 .given .1,
-      sym (c .before .before .before .before .before .before .before .before .before .before .before .before .before .before .before .before .before .before .before .before .read-keyword5 .ensures) ∙ c .before .before .before .before .before .before .before .before .before .before .before .before .before .before .before .before .before .before .enum-told5 .given .1,
-      sym (c .before .before .before .before .before .before .before .before .before .before .before .before .before .before .before .before .read-keyword6 .ensures) ∙ c .before .before .before .before .before .before .before .before .before .before .before .before .before .before .enum-told6 .given .1,
-      sym (c .before .before .before .before .before .before .before .before .before .before .before .before .read-keyword7 .ensures) ∙ c .before .before .before .before .before .before .before .before .before .before .enum-told7 .given .1,
-      sym (c .before .before .before .before .before .before .before .before .read-keyword8 .ensures) ∙ c .before .before .before .before .before .before .enum-told8 .given .1,
-      sym (c .before .before .before .before .read-keyword9 .ensures) ∙ c .before .before .a9 .given .1,
-    )
-    (c .ended2 .ensures)
-
-enum-told-9 : tie.Need-enum-told-9
-enum-told-9 c = search needs
-
-gate-line-requires : tie.Need-gate-line-requires
-gate-line-requires c κs = search needs
-
-returns-10 : tie.Need-returns-10
-unfolding shapeOf
-returns-10 c =
-    rw (
-      sym (c .before .before .before .before .before .before .before .before .before .before .before .before .before .before .before .before .before .before .before .before .before .before .before .before .before .before .before .before .before .before .before .before .before .before .before .read-keyword .ensures) ∙ c .before .before .before .before .before .before .before .before .before .before .before .before .before .before .before .before .before .before .before .before .before .before .before .before .before .before .before .before .before .before .before .before .before .enum-told .given .1,
-      sym (c .before .before .before .before .before .before .before .before .before .before .before .before .before .before .before .before .before .before .before .before .before .before .before .before .before .before .before .before .before .before .before .read-keyword2 .ensures) ∙ c .before .before .before .before .before .before .before .before .before .before .before .before .before .before .before .before .before .before .before .before .before .before .before .before .before .before .before .before .before .enum-told2 .given .1,
-      sym (c .before .before .before .before .before .before .before .before .before .before .before .before .before .before .before .before .before .before .before .before .before .before .before .before .before .before .before .read-keyword3 .ensures) ∙ c .before .before .before .before .before .before .before .before .before .before .before .before .before .before .before .before .before .before .before .before .before .before .before .before .before .enum-told3 .given .1,
-      sym (c .before .before .before .before .before .before .before .before .before .before .before .before .before .before .before .before .before .before .before .before .before .before .before .read-keyword4 .ensures) ∙ c .before .before .before .before .before .before .before .before .before .before .before .before .before .before .before .before .before .before .before .before .before .enum-told4 .given .1,
-      sym (c .before .before .before .before .before .before .before .before .before .before .before .before .before .before .before .before .before .before .before .read-keyword5 .ensures) ∙ c .before .before .before .before .before .before .before .before .before .before .before .before .before .before .before .before .before .enum-told5 .given .1,
-      sym (c .before .before .before .before .before .before .before .before .before .before .before .before .before .before .before .read-keyword6 .ensures) ∙ c .before .before .before .before .before .before .before .before .before .before .before .before .before .enum-told6 .given .1,
-      sym (c .before .before .before .before .before .before .before .before .before .before .before .read-keyword7 .ensures) ∙ c .before .before .before .before .before .before .before .before .before .enum-told7 .given .1,
-      sym (c .before .before .before .before .before .before .before .read-keyword8 .ensures) ∙ c .before .before .before .before .before .enum-told8 .given .1,
-      sym (c .before .before .before .read-keyword9 .ensures) ∙ c .before .enum-told9 .given .1,
-    )
-    (c .gate-line .ensures)
+    (c .shape-of-strings .ensures)
 
 pub shape-spec : {M : Type 1} → statement M
 shape-spec =
@@ -270,7 +101,7 @@ shape-spec =
     slice-aggregate-read-keyword
     read-keyword-requires
     enum-known-a
-    circuit-requires
+    number-form-requires
     returns
     enum-told
     slice-aggregate-read-keyword-2
@@ -282,44 +113,8 @@ shape-spec =
     slice-aggregate-read-keyword-3
     read-keyword-requires-3
     enum-known-a-3
-    undo-requires
+    number-form-requires-2
     returns-3
     enum-told-3
-    slice-aggregate-read-keyword-4
-    read-keyword-requires-4
-    enum-known-a-4
-    start-requires
-    returns-4
-    enum-told-4
-    slice-aggregate-read-keyword-5
-    read-keyword-requires-5
-    enum-known-a-5
-    amp-requires
-    returns-5
-    enum-told-5
-    slice-aggregate-read-keyword-6
-    read-keyword-requires-6
-    enum-known-a-6
-    part-requires
-    returns-6
-    enum-told-6
-    slice-aggregate-read-keyword-7
-    read-keyword-requires-7
-    enum-known-a-7
-    step-requires
-    returns-7
-    enum-told-7
-    slice-aggregate-read-keyword-8
-    read-keyword-requires-8
-    enum-known-a-8
-    ended-requires
-    returns-8
-    enum-told-8
-    slice-aggregate-read-keyword-9
-    read-keyword-requires-9
-    enum-known-a-9
-    ended-requires-2
-    returns-9
-    enum-told-9
-    gate-line-requires
-    returns-10)
+    shape-of-strings-requires
+    returns-4)

@@ -30,8 +30,9 @@ enum-told-2 c = search needs
 returns-2 : tie.Need-returns-2
 unfolding readCnot
 returns-2 c =
+    let first = c .before .before .before .before in
     rw (
-      sym (c .before .before .before .before .before .before .read-colour .ensures) ∙ c .before .before .before .before .colour .given .1,
+      sym (first .before .before .read-colour .ensures) ∙ first .colour .given .1,
       sym (c .before .before .spaced-number .ensures) ∙ c .enum-told2 .given .1,
     )
 
@@ -47,17 +48,16 @@ enum-told-3 c = search needs
 returns-3 : tie.Need-returns-3
 unfolding readCnot
 returns-3 c =
+    let second = c .before .before .before .before in
+    let first = second .before .before .before .before in
     rw (
-      sym (c .before .before .before .before .before .before .before .before .before .before .read-colour .ensures) ∙ c .before .before .before .before .before .before .before .before .colour .given .1,
-      sym (c .before .before .before .before .before .before .spaced-number .ensures) ∙ c .before .before .before .before .control .given .1,
+      sym (first .before .before .read-colour .ensures) ∙ first .colour .given .1,
+      sym (second .before .before .spaced-number .ensures) ∙ second .control .given .1,
       sym (c .before .before .spaced-number2 .ensures) ∙ c .enum-told3 .given .1,
     )
 
-slice-aggregate-read-keyword : tie.Need-slice-aggregate-read-keyword
-slice-aggregate-read-keyword c = search needs
-
-read-keyword-requires : tie.Need-read-keyword-requires
-read-keyword-requires c κs = search needs
+read-byte-requires : tie.Need-read-byte-requires
+read-byte-requires c κs = search needs
 
 enum-known-next : tie.Need-enum-known-next
 enum-known-next c = search needs
@@ -68,21 +68,28 @@ enum-told-4 c = search needs
 returns-4 : tie.Need-returns-4
 unfolding readCnot
 returns-4 c =
+    let third = c .before .before .before .before in
+    let second = third .before .before .before .before in
+    let first = second .before .before .before .before in
     rw (
-      sym (c .before .before .before .before .before .before .before .before .before .before .before .before .before .before .before .read-colour .ensures) ∙ c .before .before .before .before .before .before .before .before .before .before .before .before .before .colour .given .1,
-      sym (c .before .before .before .before .before .before .before .before .before .before .before .spaced-number .ensures) ∙ c .before .before .before .before .before .before .before .before .before .control .given .1,
-      sym (c .before .before .before .before .before .before .before .spaced-number2 .ensures) ∙ c .before .before .before .before .before .target .given .1,
-      sym (c .before .before .read-keyword .ensures) ∙ c .enum-told4 .given .1,
+      sym (first .before .before .read-colour .ensures) ∙ first .colour .given .1,
+      sym (second .before .before .spaced-number .ensures) ∙ second .control .given .1,
+      sym (third .before .before .spaced-number2 .ensures) ∙ third .target .given .1,
+      sym (c .before .before .read-byte .ensures) ∙ c .enum-told4 .given .1,
     )
 
 returns-5 : tie.Need-returns-5
 unfolding readCnot
 returns-5 c =
+    let fourth = c .before in
+    let third = fourth .before .before .before .before in
+    let second = third .before .before .before .before in
+    let first = second .before .before .before .before in
     rw (
-      sym (c .before .before .before .before .before .before .before .before .before .before .before .before .before .before .before .before .read-colour .ensures) ∙ c .before .before .before .before .before .before .before .before .before .before .before .before .before .before .colour .given .1,
-      sym (c .before .before .before .before .before .before .before .before .before .before .before .before .spaced-number .ensures) ∙ c .before .before .before .before .before .before .before .before .before .before .control .given .1,
-      sym (c .before .before .before .before .before .before .before .before .spaced-number2 .ensures) ∙ c .before .before .before .before .before .before .target .given .1,
-      sym (c .before .before .before .read-keyword .ensures) ∙ c .before .next .given .1,
+      sym (first .before .before .read-colour .ensures) ∙ first .colour .given .1,
+      sym (second .before .before .spaced-number .ensures) ∙ second .control .given .1,
+      sym (third .before .before .spaced-number2 .ensures) ∙ third .target .given .1,
+      sym (fourth .before .before .read-byte .ensures) ∙ fourth .next .given .1,
     )
 
 pub cnot-spec : {M : Type 1} → statement M
@@ -101,8 +108,7 @@ cnot-spec =
     enum-known-target
     enum-told-3
     returns-3
-    slice-aggregate-read-keyword
-    read-keyword-requires
+    read-byte-requires
     enum-known-next
     enum-told-4
     returns-4

@@ -18,11 +18,8 @@ returns : tie.Need-returns
 unfolding readCz
 returns c = rw (sym (c .before .before .spot .ensures) ∙ c .enum-told .given .1)
 
-slice-aggregate-read-keyword : tie.Need-slice-aggregate-read-keyword
-slice-aggregate-read-keyword c = search needs
-
-read-keyword-requires : tie.Need-read-keyword-requires
-read-keyword-requires c κs = search needs
+read-byte-requires : tie.Need-read-byte-requires
+read-byte-requires c κs = search needs
 
 enum-known-d : tie.Need-enum-known-d
 enum-known-d c = search needs
@@ -33,9 +30,10 @@ enum-told-2 c = search needs
 returns-2 : tie.Need-returns-2
 unfolding readCz
 returns-2 c =
+    let first = c .before .before .before .before in
     rw (
-      sym (c .before .before .before .before .before .before .before .spot .ensures) ∙ c .before .before .before .before .before .p .given .1,
-      sym (c .before .before .read-keyword .ensures) ∙ c .enum-told2 .given .1,
+      sym (first .before .before .spot .ensures) ∙ first .p .given .1,
+      sym (c .before .before .read-byte .ensures) ∙ c .enum-told2 .given .1,
     )
 
 spot-requires-2 : tie.Need-spot-requires-2
@@ -50,17 +48,16 @@ enum-told-3 c = search needs
 returns-3 : tie.Need-returns-3
 unfolding readCz
 returns-3 c =
+    let second = c .before .before .before .before in
+    let first = second .before .before .before .before in
     rw (
-      sym (c .before .before .before .before .before .before .before .before .before .before .before .spot .ensures) ∙ c .before .before .before .before .before .before .before .before .before .p .given .1,
-      sym (c .before .before .before .before .before .before .read-keyword .ensures) ∙ c .before .before .before .before .d .given .1,
+      sym (first .before .before .spot .ensures) ∙ first .p .given .1,
+      sym (second .before .before .read-byte .ensures) ∙ second .d .given .1,
       sym (c .before .before .spot2 .ensures) ∙ c .enum-told3 .given .1,
     )
 
-slice-aggregate-read-keyword-2 : tie.Need-slice-aggregate-read-keyword-2
-slice-aggregate-read-keyword-2 c = search needs
-
-read-keyword-requires-2 : tie.Need-read-keyword-requires-2
-read-keyword-requires-2 c κs = search needs
+read-byte-requires-2 : tie.Need-read-byte-requires-2
+read-byte-requires-2 c κs = search needs
 
 enum-known-next : tie.Need-enum-known-next
 enum-known-next c = search needs
@@ -71,21 +68,28 @@ enum-told-4 c = search needs
 returns-4 : tie.Need-returns-4
 unfolding readCz
 returns-4 c =
+    let third = c .before .before .before .before in
+    let second = third .before .before .before .before in
+    let first = second .before .before .before .before in
     rw (
-      sym (c .before .before .before .before .before .before .before .before .before .before .before .before .before .before .before .before .spot .ensures) ∙ c .before .before .before .before .before .before .before .before .before .before .before .before .before .before .p .given .1,
-      sym (c .before .before .before .before .before .before .before .before .before .before .before .read-keyword .ensures) ∙ c .before .before .before .before .before .before .before .before .before .d .given .1,
-      sym (c .before .before .before .before .before .before .before .spot2 .ensures) ∙ c .before .before .before .before .before .q .given .1,
-      sym (c .before .before .read-keyword2 .ensures) ∙ c .enum-told4 .given .1,
+      sym (first .before .before .spot .ensures) ∙ first .p .given .1,
+      sym (second .before .before .read-byte .ensures) ∙ second .d .given .1,
+      sym (third .before .before .spot2 .ensures) ∙ third .q .given .1,
+      sym (c .before .before .read-byte2 .ensures) ∙ c .enum-told4 .given .1,
     )
 
 returns-5 : tie.Need-returns-5
 unfolding readCz
 returns-5 c =
+    let fourth = c .before in
+    let third = fourth .before .before .before .before in
+    let second = third .before .before .before .before in
+    let first = second .before .before .before .before in
     rw (
-      sym (c .before .before .before .before .before .before .before .before .before .before .before .before .before .before .before .before .before .spot .ensures) ∙ c .before .before .before .before .before .before .before .before .before .before .before .before .before .before .before .p .given .1,
-      sym (c .before .before .before .before .before .before .before .before .before .before .before .before .read-keyword .ensures) ∙ c .before .before .before .before .before .before .before .before .before .before .d .given .1,
-      sym (c .before .before .before .before .before .before .before .before .spot2 .ensures) ∙ c .before .before .before .before .before .before .q .given .1,
-      sym (c .before .before .before .read-keyword2 .ensures) ∙ c .before .next .given .1,
+      sym (first .before .before .spot .ensures) ∙ first .p .given .1,
+      sym (second .before .before .read-byte .ensures) ∙ second .d .given .1,
+      sym (third .before .before .spot2 .ensures) ∙ third .q .given .1,
+      sym (fourth .before .before .read-byte2 .ensures) ∙ fourth .next .given .1,
     )
 
 pub cz-spec : {M : Type 1} → statement M
@@ -96,8 +100,7 @@ cz-spec =
     enum-known-p
     enum-told
     returns
-    slice-aggregate-read-keyword
-    read-keyword-requires
+    read-byte-requires
     enum-known-d
     enum-told-2
     returns-2
@@ -105,8 +108,7 @@ cz-spec =
     enum-known-q
     enum-told-3
     returns-3
-    slice-aggregate-read-keyword-2
-    read-keyword-requires-2
+    read-byte-requires-2
     enum-known-next
     enum-told-4
     returns-4

@@ -20,11 +20,8 @@ part-read : (l : List ℕ) (from : ℕ) {part : List ℕ} {g : GateAt} → part 
 part-read l from p r =
     sym (gatePart-read (drop from l)) ∙ ap (λ (x : List ℕ). readGate (gatePart x)) (sym (part-all l from)) ∙ ap readGate (sym p) ∙ r
 
-slice-aggregate-read-keyword : tie.Need-slice-aggregate-read-keyword
-slice-aggregate-read-keyword c = search needs
-
-read-keyword-requires : tie.Need-read-keyword-requires
-read-keyword-requires c κs = search needs
+read-byte-requires : tie.Need-read-byte-requires
+read-byte-requires c κs = search needs
 
 enum-known-from : tie.Need-enum-known-from
 enum-known-from c = search needs
@@ -34,17 +31,21 @@ enum-told c = search needs
 
 returns : tie.Need-returns
 unfolding layerGateAt
-returns c = rw (sym (c .before .before .read-keyword .ensures) ∙ c .enum-told .given .1)
+returns c = rw (sym (c .before .before .read-byte .ensures) ∙ c .enum-told .given .1)
 
 sub-gate-part : tie.Need-sub-gate-part
 sub-gate-part c =
-    let args = c .before .before .before .before .before .before .args in
-    omega (arith, keyword-fits (now (args .line)) (args .at) (bytes " ") _ (sym (c .before .before .before .read-keyword .ensures) ∙ c .before .from .given .1) (omega arith))
+    let space = c .before in
+    let read = space .before .before in
+    let args = read .before .before .args in
+    omega (arith, keyword-fits (now (args .line)) (args .at) (bytes " ") _ (sym (read .read-byte .ensures) ∙ space .from .given .1) (omega arith))
 
 part-gate-part-start : tie.Need-part-gate-part-start
 part-gate-part-start c =
-    let args = c .before .before .before .before .before .before .args in
-    keyword-fits (now (args .line)) (args .at) (bytes " ") _ (sym (c .before .before .before .read-keyword .ensures) ∙ c .before .from .given .1) (omega arith)
+    let space = c .before in
+    let read = space .before .before in
+    let args = read .before .before .args in
+    keyword-fits (now (args .line)) (args .at) (bytes " ") _ (sym (read .read-byte .ensures) ∙ space .from .given .1) (omega arith)
 
 part-gate-part-end : tie.Need-part-gate-part-end
 part-gate-part-end c = search needs
@@ -64,40 +65,50 @@ enum-told-2 c = search needs
 returns-2 : tie.Need-returns-2
 unfolding layerGateAt
 returns-2 c =
-    let l = now (c .before .before .before .before .before .before .before .before .before .before .before .args .line) in
-    let from = c .before .before .before .before .before .before .from .given .0 .0 in
+    let gate = c .before .before in
+    let part = gate .before in
+    let space = part .before .before .before in
+    let read = space .before .before in
+    let l = now (read .before .before .args .line) in
     rw (
-      sym (c .before .before .before .before .before .before .before .before .read-keyword .ensures) ∙ c .before .before .before .before .before .before .from .given .1,
-      part-read l from (c .before .before .before .gate-part .ensures) (sym (c .before .before .first-gate .ensures) ∙ c .enum-told2 .given .1),
+      sym (read .read-byte .ensures) ∙ space .from .given .1,
+      part-read l (space .from .given .0 .0) (part .gate-part .ensures) (sym (gate .first-gate .ensures) ∙ c .enum-told2 .given .1),
     )
 
-add-t12 : tie.Need-add-t12
-add-t12 c =
-    let args = c .before .before .before .before .before .before .before .before .before .before .before .before .args in
+add-t9 : tie.Need-add-t9
+add-t9 c =
+    let told = c .before in
+    let gate = told .before .before in
+    let part = gate .before in
+    let space = part .before .before .before in
+    let read = space .before .before in
+    let args = read .before .before .args in
     let l = now (args .line) in
-    let from = c .before .before .before .before .before .before .before .from .given .0 .0 in
-    let space = keyword-fits l (args .at) (bytes " ") _ (sym (c .before .before .before .before .before .before .before .before .before .read-keyword .ensures) ∙ c .before .before .before .before .before .before .before .from .given .1) (omega arith) in
+    let fits = keyword-fits l (args .at) (bytes " ") _ (sym (read .read-byte .ensures) ∙ space .from .given .1) (omega arith) in
     omega (
       arith,
-      gate-fits-from l from _ _ (part-read l from (c .before .before .before .before .gate-part .ensures) (sym (c .before .before .before .first-gate .ensures) ∙ c .before .gate .given .1)),
+      gate-fits-from l (space .from .given .0 .0) _ _ (part-read l (space .from .given .0 .0) (part .gate-part .ensures) (sym (gate .first-gate .ensures) ∙ told .gate .given .1)),
     )
 
 returns-3 : tie.Need-returns-3
 unfolding layerGateAt
 returns-3 c =
-    let l = now (c .before .before .before .before .before .before .before .before .before .before .before .before .args .line) in
-    let from = c .before .before .before .before .before .before .before .from .given .0 .0 in
+    let told = c .before in
+    let gate = told .before .before in
+    let part = gate .before in
+    let space = part .before .before .before in
+    let read = space .before .before in
+    let l = now (read .before .before .args .line) in
     rw (
-      sym (c .before .before .before .before .before .before .before .before .before .read-keyword .ensures) ∙ c .before .before .before .before .before .before .before .from .given .1,
-      part-read l from (c .before .before .before .before .gate-part .ensures) (sym (c .before .before .before .first-gate .ensures) ∙ c .before .gate .given .1),
+      sym (read .read-byte .ensures) ∙ space .from .given .1,
+      part-read l (space .from .given .0 .0) (part .gate-part .ensures) (sym (gate .first-gate .ensures) ∙ told .gate .given .1),
     )
 
 pub layer-gate-spec : {M : Type 1} → statement M
 layer-gate-spec =
     tie.close
     (tie.spec
-    slice-aggregate-read-keyword
-    read-keyword-requires
+    read-byte-requires
     enum-known-from
     enum-told
     returns
@@ -109,5 +120,5 @@ layer-gate-spec =
     enum-known-gate
     enum-told-2
     returns-2
-    add-t12
+    add-t9
     returns-3)

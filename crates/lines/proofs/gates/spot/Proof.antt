@@ -5,11 +5,8 @@ use borrow.Author.Needs.{needs}
 use Rattle.lines.proofs.gates.spot.Statement.{statement}
 use Rattle.lines.proofs.gates.spot.Tie as tie
 
-slice-aggregate-read-keyword : tie.Need-slice-aggregate-read-keyword
-slice-aggregate-read-keyword c = search needs
-
-read-keyword-requires : tie.Need-read-keyword-requires
-read-keyword-requires c κs = search needs
+read-byte-requires : tie.Need-read-byte-requires
+read-byte-requires c κs = search needs
 
 enum-known-a : tie.Need-enum-known-a
 enum-known-a c = search needs
@@ -19,7 +16,7 @@ enum-told c = search needs
 
 returns : tie.Need-returns
 unfolding readSpot
-returns c = rw (sym (c .before .before .read-keyword .ensures) ∙ c .enum-told .given .1)
+returns c = rw (sym (c .before .before .read-byte .ensures) ∙ c .enum-told .given .1)
 
 read-colour-requires : tie.Need-read-colour-requires
 read-colour-requires c κs = search needs
@@ -33,8 +30,9 @@ enum-told-2 c = search needs
 returns-2 : tie.Need-returns-2
 unfolding readSpot
 returns-2 c =
+    let first = c .before .before .before .before in
     rw (
-      sym (c .before .before .before .before .before .before .read-keyword .ensures) ∙ c .before .before .before .before .a .given .1,
+      sym (first .before .before .read-byte .ensures) ∙ first .a .given .1,
       sym (c .before .before .read-colour .ensures) ∙ c .enum-told2 .given .1,
     )
 
@@ -50,17 +48,16 @@ enum-told-3 c = search needs
 returns-3 : tie.Need-returns-3
 unfolding readSpot
 returns-3 c =
+    let second = c .before .before .before .before in
+    let first = second .before .before .before .before in
     rw (
-      sym (c .before .before .before .before .before .before .before .before .before .before .read-keyword .ensures) ∙ c .before .before .before .before .before .before .before .before .a .given .1,
-      sym (c .before .before .before .before .before .before .read-colour .ensures) ∙ c .before .before .before .before .colour .given .1,
+      sym (first .before .before .read-byte .ensures) ∙ first .a .given .1,
+      sym (second .before .before .read-colour .ensures) ∙ second .colour .given .1,
       sym (c .before .before .spaced-number .ensures) ∙ c .enum-told3 .given .1,
     )
 
-slice-aggregate-read-keyword-2 : tie.Need-slice-aggregate-read-keyword-2
-slice-aggregate-read-keyword-2 c = search needs
-
-read-keyword-requires-2 : tie.Need-read-keyword-requires-2
-read-keyword-requires-2 c κs = search needs
+read-byte-requires-2 : tie.Need-read-byte-requires-2
+read-byte-requires-2 c κs = search needs
 
 enum-known-next : tie.Need-enum-known-next
 enum-known-next c = search needs
@@ -71,29 +68,35 @@ enum-told-4 c = search needs
 returns-4 : tie.Need-returns-4
 unfolding readSpot
 returns-4 c =
+    let third = c .before .before .before .before in
+    let second = third .before .before .before .before in
+    let first = second .before .before .before .before in
     rw (
-      sym (c .before .before .before .before .before .before .before .before .before .before .before .before .before .before .before .read-keyword .ensures) ∙ c .before .before .before .before .before .before .before .before .before .before .before .before .before .a .given .1,
-      sym (c .before .before .before .before .before .before .before .before .before .before .before .read-colour .ensures) ∙ c .before .before .before .before .before .before .before .before .before .colour .given .1,
-      sym (c .before .before .before .before .before .before .before .spaced-number .ensures) ∙ c .before .before .before .before .before .position .given .1,
-      sym (c .before .before .read-keyword2 .ensures) ∙ c .enum-told4 .given .1,
+      sym (first .before .before .read-byte .ensures) ∙ first .a .given .1,
+      sym (second .before .before .read-colour .ensures) ∙ second .colour .given .1,
+      sym (third .before .before .spaced-number .ensures) ∙ third .position .given .1,
+      sym (c .before .before .read-byte2 .ensures) ∙ c .enum-told4 .given .1,
     )
 
 returns-5 : tie.Need-returns-5
 unfolding readSpot
 returns-5 c =
+    let fourth = c .before in
+    let third = fourth .before .before .before .before in
+    let second = third .before .before .before .before in
+    let first = second .before .before .before .before in
     rw (
-      sym (c .before .before .before .before .before .before .before .before .before .before .before .before .before .before .before .before .read-keyword .ensures) ∙ c .before .before .before .before .before .before .before .before .before .before .before .before .before .before .a .given .1,
-      sym (c .before .before .before .before .before .before .before .before .before .before .before .before .read-colour .ensures) ∙ c .before .before .before .before .before .before .before .before .before .before .colour .given .1,
-      sym (c .before .before .before .before .before .before .before .before .spaced-number .ensures) ∙ c .before .before .before .before .before .before .position .given .1,
-      sym (c .before .before .before .read-keyword2 .ensures) ∙ c .before .next .given .1,
+      sym (first .before .before .read-byte .ensures) ∙ first .a .given .1,
+      sym (second .before .before .read-colour .ensures) ∙ second .colour .given .1,
+      sym (third .before .before .spaced-number .ensures) ∙ third .position .given .1,
+      sym (fourth .before .before .read-byte2 .ensures) ∙ fourth .next .given .1,
     )
 
 pub spot-spec : {M : Type 1} → statement M
 spot-spec =
     tie.close
     (tie.spec
-    slice-aggregate-read-keyword
-    read-keyword-requires
+    read-byte-requires
     enum-known-a
     enum-told
     returns
@@ -105,8 +108,7 @@ spot-spec =
     enum-known-position
     enum-told-3
     returns-3
-    slice-aggregate-read-keyword-2
-    read-keyword-requires-2
+    read-byte-requires-2
     enum-known-next
     enum-told-4
     returns-4
