@@ -3,17 +3,28 @@
 ghost use mathlib.Core.Path.{_≡_};
 ghost use mathlib.Core.List.{map};
 ghost use Prim.Native.Nat.{_<_, _^_, _*_, _/_, _%_};
-ghost use lib.ListN.{getD};
 ghost use lib.Bits.{bitAnd, bitXor};
 ghost use Rattle.elimination.specs.Rows.{clear, rowsOf, clearedBy, pivot, pivots};
 ghost use Rattle.elimination.specs.State.{stateOf, begun, outcomeOf};
 
+// The packed words of a system: 17 rows, three to a word.
+pub const WORDS: usize = 6;
+
+// The bits of a row.
+const ROW: u32 = 21;
+
+// All bits of a row.
+const ROW_BITS: u64 = (1 << ROW) - 1;
+
+// The last bit of a row, which the rows of a system do not have.
+const LAST_BIT: u64 = 1 << (ROW - 1);
+
 // The lowest bit of each of a word's three rows.
-const ONES: u64 = 4398048608257;
+const ONES: u64 = 1 + (1 << ROW) + (1 << 2 * ROW);
 
 // The rows, packed, and the columns that have had their pivot: column j is bit j.
 struct Working {
-    words: [u64; 6],
+    words: [u64; WORDS],
     columns: u64,
 }
 
@@ -26,7 +37,7 @@ fn word_step(w: u64, mask: u64, q: u64) -> u64
 }
 
 // The row `x` is added to every row that has bit `j`; `x` has no bit below `j`.
-fn clear_all(words: [u64; 6], x: u64, j: u32) -> [u64; 6]
+fn clear_all(words: [u64; WORDS], x: u64, j: u32) -> [u64; WORDS]
     requires { ⌜ (x < 2 ^ 21) × (j < 21) × (x / 2 ^ j * 2 ^ j ≡ x) ⌝ }
     ensures { λ r. ⌜ rowsOf r ≡ map (clear x j) (rowsOf words) ⌝ }
 {
@@ -34,7 +45,7 @@ fn clear_all(words: [u64; 6], x: u64, j: u32) -> [u64; 6]
     let q = x >> j;
     let mut r = words;
     let mut k: usize = 0;
-    while k < 6 {
+    while k < WORDS {
         r[k] = word_step(r[k], mask, q);
         k += 1;
     }
@@ -46,7 +57,7 @@ fn row_at(w: u64, l: u32) -> u64
     requires { ⌜ l < 64 ⌝ }
     ensures { λ r. ⌜ r ≡ w / 2 ^ l % 2 ^ 21 ⌝ }
 {
-    (w >> l) & 2097151
+    (w >> l) & ROW_BITS
 }
 
 // The pivot with the row `x`, at its lowest bit. Where `x` is 0 bit 20 stands for that bit, which the rows of a system do not have.
@@ -54,7 +65,7 @@ fn clear_by_row(s: Working, x: u64) -> Working
     requires { ⌜ x < 2 ^ 21 ⌝ }
     ensures { λ r. ⌜ stateOf r ≡ clearedBy x (stateOf s) ⌝ }
 {
-    let j = u64::trailing_zeros(x | 1048576);
+    let j = u64::trailing_zeros(x | LAST_BIT);
     let words = s.words;
     Working {
         words: clear_all(words, x, j),
@@ -69,7 +80,7 @@ fn pivot_on(s: Working, i: usize) -> Working
 {
     let w = s.words;
     let k = i / 3;
-    let l = 21 * ((i % 3) as u32);
+    let l = ROW * ((i % 3) as u32);
     clear_by_row(s, row_at(w[k], l))
 }
 
@@ -79,10 +90,21 @@ pub struct Outcome {
     pub columns: u64,
 }
 
+// What is kept of a system after its pivots: row 16 is the second of word 5.
+fn outcome_of(s: Working) -> Outcome
+    ensures { λ r. ⌜ r ≡ outcomeOf (stateOf s) ⌝ }
+{
+    let v = s.words;
+    Outcome {
+        last: row_at(v[5], ROW),
+        columns: s.columns,
+    }
+}
+
 // The pivots with the rows 0 to 15. Row 16, the last, is cleared as the others are, and no pivot is made with it. Sixteen calls and not
 // a loop: they are inlined, and a loop takes twice as long.
-pub fn eliminate(words: [u64; 6]) -> Outcome
-    ensures { λ r. ⌜ (r .last ≡ getD (pivots 16 (begun words) .rows) 16 0) × (r .columns ≡ pivots 16 (begun words) .columns) ⌝ }
+pub fn eliminate(words: [u64; WORDS]) -> Outcome
+    ensures { λ r. ⌜ r ≡ outcomeOf (pivots 16 (begun words)) ⌝ }
 {
     let mut s = Working { words, columns: 0 };
     s = pivot_on(s, 0);
@@ -101,11 +123,7 @@ pub fn eliminate(words: [u64; 6]) -> Outcome
     s = pivot_on(s, 13);
     s = pivot_on(s, 14);
     s = pivot_on(s, 15);
-    let v = s.words;
-    Outcome {
-        last: row_at(v[5], 21),
-        columns: s.columns,
-    }
+    outcome_of(s)
 }
 
 // Two systems.
@@ -133,19 +151,8 @@ fn pivot_both(s: Pair, i: usize) -> Pair
     }
 }
 
-// What is kept of a system after its pivots.
-fn outcome_of(s: Working) -> Outcome
-    ensures { λ r. ⌜ r ≡ outcomeOf (stateOf s) ⌝ }
-{
-    let v = s.words;
-    Outcome {
-        last: row_at(v[5], 21),
-        columns: s.columns,
-    }
-}
-
 // Two systems side by side: neither waits for the other's steps, so the processor does both at once.
-pub fn eliminate_both(words: [u64; 6], others: [u64; 6]) -> Outcomes
+pub fn eliminate_both(words: [u64; WORDS], others: [u64; WORDS]) -> Outcomes
     ensures { λ r. ⌜ (r .a ≡ outcomeOf (pivots 16 (begun words))) × (r .b ≡ outcomeOf (pivots 16 (begun others))) ⌝ }
 {
     let mut s = Pair {

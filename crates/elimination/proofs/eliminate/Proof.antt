@@ -1,10 +1,8 @@
--- `elimination::eliminate` meets its contract: each of the sixteen calls makes the next pivot, and row 16 is the second row of word 5.
+-- `elimination::eliminate` meets its contract: each of the sixteen calls makes the next pivot.
 use mathlib.Core.Path.{_≡_, ap, _∙_}
 use borrow.Author.Needs.{needs}
-use lib.ListN.{getD}
-use Rattle.elimination.specs.Rows.{Elim, pivot, pivots}
-use Rattle.elimination.specs.State.{stateOf, begun}
-use Rattle.elimination.proofs.Pivots.{row-at}
+use Rattle.elimination.specs.Rows.{pivot, pivots}
+use Rattle.elimination.specs.State.{stateOf, begun, outcomeOf}
 use Rattle.elimination.proofs.eliminate.Statement.{statement}
 use Rattle.elimination.proofs.eliminate.Tie as tie
 
@@ -56,16 +54,13 @@ pivot-on-requires-15 c κs = search needs
 pivot-on-requires-16 : tie.Need-pivot-on-requires-16
 pivot-on-requires-16 c κs = search needs
 
-array-read-row-at : tie.Need-array-read-row-at
-array-read-row-at c = search needs
-
-row-at-requires : tie.Need-row-at-requires
-row-at-requires c κs = search needs
+outcome-of-requires : tie.Need-outcome-of-requires
+outcome-of-requires c κs = search needs
 
 returns : tie.Need-returns
 unfolding pivots
 returns c =
-    let c16 : _ = c .before .before in
+    let c16 : _ = c .before in
     let c15 : _ = c16 .before in
     let c14 : _ = c15 .before in
     let c13 : _ = c14 .before in
@@ -98,7 +93,7 @@ returns c =
     let e14 : stateOf (c14 .pivot-on14 .result) ≡ pivots 14 (begun w) = c14 .pivot-on14 .ensures ∙ ap (pivot 13) e13 in
     let e15 : stateOf (c15 .pivot-on15 .result) ≡ pivots 15 (begun w) = c15 .pivot-on15 .ensures ∙ ap (pivot 14) e14 in
     let e16 : stateOf (c16 .pivot-on16 .result) ≡ pivots 16 (begun w) = c16 .pivot-on16 .ensures ∙ ap (pivot 15) e15 in
-    (c .row-at .ensures ∙ row-at (c16 .pivot-on16 .result .words) 16 ∙ ap (λ (x : Elim). getD (x .rows) 16 0) e16, ap (λ (x : Elim). x .columns) e16)
+    c .outcome-of .ensures ∙ ap outcomeOf e16
 
 pub eliminate-spec : {M : Type 1} → statement M
 eliminate-spec =
@@ -120,6 +115,5 @@ eliminate-spec =
     pivot-on-requires-14
     pivot-on-requires-15
     pivot-on-requires-16
-    array-read-row-at
-    row-at-requires
+    outcome-of-requires
     returns)
