@@ -26,9 +26,12 @@ pub enum Answer {
     Refused(u8),
 }
 
-// A line as it is built. The longest answer has 68 bytes: a `ccz` with three positions of 20 digits.
+// Room for every answer. The longest has 68 bytes: a `ccz` with three positions of 20 digits.
+const ROOM: usize = 96;
+
+// A line as it is built.
 struct Text {
-    bytes: [u8; 96],
+    bytes: [u8; ROOM],
     len: usize,
 }
 
@@ -36,7 +39,7 @@ fn no_text() -> Text
     ensures { λ r. ⌜ r ≡ textOf [] ⌝ }
 {
     Text {
-        bytes: [0u8; 96],
+        bytes: [0u8; ROOM],
         len: 0,
     }
 }

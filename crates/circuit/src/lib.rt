@@ -7,6 +7,9 @@ pub mod history;
 pub mod listing;
 pub mod polynomial;
 
+// A colour's indices in a term: its positions 1 to 16, and 0 where the term has none of it.
+pub const INDICES: usize = 17;
+
 pub enum Colour {
     Red,
     Blue,

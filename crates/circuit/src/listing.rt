@@ -12,6 +12,7 @@ use crate::Colour;
 use crate::Entry;
 use crate::Gate;
 use crate::Spot;
+use crate::polynomial::WORDS;
 
 // A cell, and a place among its terms.
 struct Place {
@@ -58,7 +59,7 @@ fn mask_of(n: usize) -> u32
 }
 
 // The terms of cell `n`, a bit for each.
-fn cell(words: &[u32; 289], n: usize) -> u32
+fn cell(words: &[u32; WORDS], n: usize) -> u32
     requires { ⌜ n < 544 ⌝ }
     ensures { λ r. ⌜ r ≡ cellWord (now (words .entry)) n ⌝ }
 {
@@ -66,7 +67,7 @@ fn cell(words: &[u32; 289], n: usize) -> u32
 }
 
 // How many terms there are.
-pub fn count(words: [u32; 289]) -> usize
+pub fn count(words: [u32; WORDS]) -> usize
     ensures { λ r. ⌜ ((f : Polynomial) → words ≡ wordsOf f → r ≡ length (listing 16 f)) ⌝ }
 {
     let mut total: usize = 0;
@@ -79,7 +80,7 @@ pub fn count(words: [u32; 289]) -> usize
 }
 
 // Where place `n` of the listing is; a place past its end is past the end of the last cell.
-fn find(words: &[u32; 289], n: usize) -> Place
+fn find(words: &[u32; WORDS], n: usize) -> Place
     ensures cell { λ r. ⌜ r .cell < 544 ⌝ }
     ensures place { λ r. ⌜ entryOf (concatBelow 544 (cellTerms (now (words .entry)))) n ≡ entryOf (cellTerms (now (words .entry)) (r .cell)) (r .left) ⌝ }
 {
@@ -143,7 +144,7 @@ fn gate_of_term(i: usize, j: usize, k: usize) -> Gate
 }
 
 // The term at place `n` of the listing, places counted from 0.
-pub fn entry(words: [u32; 289], n: usize) -> Entry
+pub fn entry(words: [u32; WORDS], n: usize) -> Entry
     ensures { λ r. ⌜ ((f : Polynomial) → words ≡ wordsOf f → r ≡ entryOf (listing 16 f) n) ⌝ }
 {
     let place = find(&words, n);

@@ -7,16 +7,20 @@ ghost use Rattle.circuit.specs.Words.{wordsOf, taken};
 ghost use Prim.Native.Nat.{_≤_};
 use crate::Colour;
 use crate::Gate;
+use crate::INDICES;
 use crate::Spot;
 
-pub fn empty() -> [u32; 289]
+// The words of a polynomial: one for each red and blue index.
+pub const WORDS: usize = INDICES * INDICES;
+
+pub fn empty() -> [u32; WORDS]
     ensures { λ r. ⌜ r ≡ wordsOf empty ⌝ }
 {
-    [0u32; 289]
+    [0u32; WORDS]
 }
 
 // One term added; a term added twice is gone.
-fn toggle(words: [u32; 289], i: usize, j: usize, k: usize) -> [u32; 289]
+fn toggle(words: [u32; WORDS], i: usize, j: usize, k: usize) -> [u32; WORDS]
     requires { ⌜ (i ≤ 16) × (j ≤ 16) × (k ≤ 16) ⌝ }
     ensures { λ r. ⌜ ((f : Polynomial) → words ≡ wordsOf f → r ≡ wordsOf (toggled (term i j k) f)) ⌝ }
 {
@@ -40,7 +44,7 @@ fn index_in(colour: Colour, p: Spot, q: Spot) -> usize
     0
 }
 
-fn toggle_pair(words: [u32; 289], p: Spot, q: Spot) -> [u32; 289]
+fn toggle_pair(words: [u32; WORDS], p: Spot, q: Spot) -> [u32; WORDS]
     requires { ⌜ (p .position ≤ 16) × (q .position ≤ 16) ⌝ }
     ensures { λ r. ⌜ ((f : Polynomial) → words ≡ wordsOf f → r ≡ wordsOf (toggled (pair p q) f)) ⌝ }
 {
@@ -51,7 +55,7 @@ fn toggle_pair(words: [u32; 289], p: Spot, q: Spot) -> [u32; 289]
 }
 
 // A row of words added to another: the terms with red index `t` again with `c`.
-fn cnot_red(words: [u32; 289], c: usize, t: usize) -> [u32; 289]
+fn cnot_red(words: [u32; WORDS], c: usize, t: usize) -> [u32; WORDS]
     requires { ⌜ (c ≤ 16) × (t ≤ 16) ⌝ }
     ensures { λ r. ⌜ ((f : Polynomial) → words ≡ wordsOf f → r ≡ wordsOf (substituted Colour.Red c t f)) ⌝ }
 {
@@ -65,7 +69,7 @@ fn cnot_red(words: [u32; 289], c: usize, t: usize) -> [u32; 289]
 }
 
 // A column of words added to another.
-fn cnot_blue(words: [u32; 289], c: usize, t: usize) -> [u32; 289]
+fn cnot_blue(words: [u32; WORDS], c: usize, t: usize) -> [u32; WORDS]
     requires { ⌜ (c ≤ 16) × (t ≤ 16) ⌝ }
     ensures { λ r. ⌜ ((f : Polynomial) → words ≡ wordsOf f → r ≡ wordsOf (substituted Colour.Blue c t f)) ⌝ }
 {
@@ -79,13 +83,13 @@ fn cnot_blue(words: [u32; 289], c: usize, t: usize) -> [u32; 289]
 }
 
 // Bit `t` of every word added to bit `c`.
-fn cnot_green(words: [u32; 289], c: usize, t: usize) -> [u32; 289]
+fn cnot_green(words: [u32; WORDS], c: usize, t: usize) -> [u32; WORDS]
     requires { ⌜ (c ≤ 16) × (t ≤ 16) ⌝ }
     ensures { λ r. ⌜ ((f : Polynomial) → words ≡ wordsOf f → r ≡ wordsOf (substituted Colour.Green c t f)) ⌝ }
 {
     let mut next = words;
     let mut n = 0;
-    while n < 289 {
+    while n < WORDS {
         let w = words[n];
         next[n] = w ^ ((w >> t & 1) << c);
         n += 1;
@@ -93,7 +97,7 @@ fn cnot_green(words: [u32; 289], c: usize, t: usize) -> [u32; 289]
     next
 }
 
-fn cnot(words: [u32; 289], colour: Colour, c: usize, t: usize) -> [u32; 289]
+fn cnot(words: [u32; WORDS], colour: Colour, c: usize, t: usize) -> [u32; WORDS]
     requires { ⌜ (c ≤ 16) × (t ≤ 16) ⌝ }
     ensures { λ r. ⌜ ((f : Polynomial) → words ≡ wordsOf f → r ≡ wordsOf (substituted colour c t f)) ⌝ }
 {
@@ -105,7 +109,7 @@ fn cnot(words: [u32; 289], colour: Colour, c: usize, t: usize) -> [u32; 289]
 }
 
 // A gate applied; one that no circuit of 16 positions has changes nothing.
-pub fn apply(words: [u32; 289], g: Gate) -> [u32; 289]
+pub fn apply(words: [u32; WORDS], g: Gate) -> [u32; WORDS]
     ensures { λ r. ⌜ ((f : Polynomial) → words ≡ wordsOf f → r ≡ wordsOf (taken g f)) ⌝ }
 {
     if !crate::is_gate(16, g) {

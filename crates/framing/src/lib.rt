@@ -5,9 +5,12 @@ ghost use Prim.Native.Nat.{_+_, _-_, min};
 ghost use lib.ListN.{length, take, drop};
 ghost use Rattle.framing.specs.Framing.{upToFeed, pendingOf, fitting, placed, LinePut, joined, scanned};
 
-// The line that is being read. Of a line longer than 1,024 bytes the first 1,025 are kept.
+// Of a line longer than 1,024 bytes, which is refused, the first 1,025 are kept.
+pub const KEPT: usize = 1025;
+
+// The line that is being read.
 pub struct Pending {
-    pub bytes: [u8; 1025],
+    pub bytes: [u8; KEPT],
     pub len: usize,
 }
 
@@ -23,7 +26,7 @@ pub fn empty() -> Pending
     ensures { λ r. ⌜ r ≡ pendingOf [] ⌝ }
 {
     Pending {
-        bytes: [0u8; 1025],
+        bytes: [0u8; KEPT],
         len: 0,
     }
 }

@@ -4,10 +4,13 @@ ghost use lib.ListN.{length};
 use engine::State;
 use libc::STDOUT_FILENO;
 
-fn history_places() -> [u32; 4096]
+// The gates that a circuit can hold.
+const PLACES: usize = 4096;
+
+fn history_places() -> [u32; PLACES]
     ensures { λ r. ⌜ 4096 ≡ length r ⌝ }
 {
-    [0u32; 4096]
+    [0u32; PLACES]
 }
 
 fn write_row(name: &[u8], answer: &[u8]) {
@@ -24,13 +27,22 @@ fn write_refusal(name: &[u8], number: u8) {
     io::write_all(STDOUT_FILENO, b"\n");
 }
 
+// A line under a name, with an answer buffer of its own; where that is not written, the number that the call returns.
+fn ask_in(state: State, history: &mut [u32], name: &[u8], line: &[u8], buffer: &mut [u8]) -> State {
+    let reply = engine::line(state, history, line, buffer);
+    let len = reply.len;
+    if len == 0 {
+        write_refusal(name, reply.refusal);
+    } else {
+        write_row(name, framing::front(buffer, len));
+    }
+    reply.state
+}
+
 // A line under a name, with its answer.
 fn ask_as(state: State, history: &mut [u32], name: &[u8], line: &[u8]) -> State {
     let mut answer = [0u8; 64];
-    let reply = engine::line(state, history, line, &mut answer);
-    let len = reply.len;
-    write_row(name, framing::front(&answer, len));
-    reply.state
+    ask_in(state, history, name, line, &mut answer)
 }
 
 fn ask(state: State, history: &mut [u32], line: &[u8]) -> State {
@@ -54,68 +66,31 @@ fn ask_all(state: State, history: &mut [u32], text: &[u8]) -> State {
     }
 }
 
-fn no_gates(state: State, history: &mut [u32]) -> State {
+// Document 01's "Known sums": no gates; one CCZ, and its readouts with red unread; the CCZ twice; one CZ; a CCZ and then a CNOT; a CNOT and then a CCZ.
+fn sums(state: State, history: &mut [u32]) -> State {
     ask_all(
         state,
         history,
-        b"(circuit 1)\n(amp r 0 0 0)\n(step 2)\n(amp r 1 0 0)\n(step 2)\n",
-    )
-}
-
-fn one_ccz(state: State, history: &mut [u32]) -> State {
-    ask_all(
-        state,
-        history,
-        b"(circuit 1)\n(ccz 1 1 1)\n(amp r 0 0 0)\n(step 2)\n(amp b 1 0 0)\n(step 2)\n(amp g 1 1 0)\n(step 2)\n(amp r 1 1 1)\n(step 2)\n",
-    )
-}
-
-fn one_ccz_read(state: State, history: &mut [u32]) -> State {
-    ask_all(
-        state,
-        history,
-        b"(part r 0 0)\n(step 2)\n(part r 0 1)\n(step 2)\n(part r 1 0)\n(step 2)\n(part r 1 1)\n(step 2)\n",
-    )
-}
-
-fn two_ccz(state: State, history: &mut [u32]) -> State {
-    ask_all(state, history, b"(ccz 1 1 1)\n(amp r 0 0 0)\n(step 2)\n")
-}
-
-fn one_cz(state: State, history: &mut [u32]) -> State {
-    ask_all(
-        state,
-        history,
-        b"(circuit 1)\n(cz (r 1) (b 1))\n(amp r 0 0 0)\n(step 2)\n(amp b 1 1 0)\n(step 2)\n(amp g 0 0 1)\n(step 2)\n",
-    )
-}
-
-fn ccz_then_cnot(state: State, history: &mut [u32]) -> State {
-    ask_all(
-        state,
-        history,
-        b"(circuit 2)\n(ccz 1 1 1)\n(cnot r 2 1)\n(terms)\n(amp r 00 00 00)\n(step 4)\n(amp b 11 00 00)\n(step 4)\n(amp g 10 00 00)\n(step 4)\n",
-    )
-}
-
-fn cnot_then_ccz(state: State, history: &mut [u32]) -> State {
-    ask_all(
-        state,
-        history,
-        b"(circuit 2)\n(cnot r 2 1)\n(ccz 1 1 1)\n(amp r 10 00 00)\n(step 4)\n(amp b 11 00 00)\n(step 4)\n",
+        b"(circuit 1)\n(amp r 0 0 0)\n(step 2)\n(amp r 1 0 0)\n(step 2)\n\
+        (circuit 1)\n(ccz 1 1 1)\n(amp r 0 0 0)\n(step 2)\n(amp b 1 0 0)\n(step 2)\n(amp g 1 1 0)\n(step 2)\n(amp r 1 1 1)\n(step 2)\n\
+        (part r 0 0)\n(step 2)\n(part r 0 1)\n(step 2)\n(part r 1 0)\n(step 2)\n(part r 1 1)\n(step 2)\n\
+        (ccz 1 1 1)\n(amp r 0 0 0)\n(step 2)\n\
+        (circuit 1)\n(cz (r 1) (b 1))\n(amp r 0 0 0)\n(step 2)\n(amp b 1 1 0)\n(step 2)\n(amp g 0 0 1)\n(step 2)\n\
+        (circuit 2)\n(ccz 1 1 1)\n(cnot r 2 1)\n(terms)\n(amp r 00 00 00)\n(step 4)\n(amp b 11 00 00)\n(step 4)\n(amp g 10 00 00)\n(step 4)\n\
+        (circuit 2)\n(cnot r 2 1)\n(ccz 1 1 1)\n(amp r 10 00 00)\n(step 4)\n(amp b 11 00 00)\n(step 4)\n",
     )
 }
 
 // A line whose closing bracket stands at `last`: a circuit with a number of many digits.
 fn ask_long(state: State, history: &mut [u32], name: &[u8], last: usize) -> State {
-    let mut line = [b'1'; 1025];
+    let mut line = [b'1'; framing::KEPT];
     framing::put(&mut line, 0, b"(circuit ");
     let len = framing::put(&mut line, last, b")");
     ask_as(state, history, name, framing::front(&line, len))
 }
 
 fn ask_layer(state: State, history: &mut [u32], name: &[u8], gates: usize) -> State {
-    let mut line = [0u8; 1025];
+    let mut line = [0u8; framing::KEPT];
     let mut at = framing::put(&mut line, 0, b"(layer");
     let mut i = 0;
     while i < gates {
@@ -124,18 +99,6 @@ fn ask_layer(state: State, history: &mut [u32], name: &[u8], gates: usize) -> St
     }
     let len = framing::put(&mut line, at, b")");
     ask_as(state, history, name, framing::front(&line, len))
-}
-
-// A line with an answer buffer of its own; where it is not written, the number that the call returns.
-fn ask_in(state: State, history: &mut [u32], name: &[u8], buffer: &mut [u8]) -> State {
-    let reply = engine::line(state, history, b"(circuit 1)", buffer);
-    let len = reply.len;
-    if len == 0 {
-        write_refusal(name, reply.refusal);
-    } else {
-        write_row(name, framing::front(buffer, len));
-    }
-    reply.state
 }
 
 fn line_edges(state: State, history: &mut [u32]) -> State {
@@ -149,18 +112,18 @@ fn layer_edges(state: State, history: &mut [u32]) -> State {
 }
 
 fn buffer_edges(state: State, history: &mut [u32]) -> State {
-    let mut buffer = [0u8; 64];
     let mut short = [0u8; 63];
-    let taken = ask_in(
+    let taken = ask_as(
         state,
         history,
         b"(circuit 1) with a buffer of 64 bytes",
-        &mut buffer,
+        b"(circuit 1)",
     );
     ask_in(
         taken,
         history,
         b"(circuit 1) with a buffer of 63 bytes",
+        b"(circuit 1)",
         &mut short,
     )
 }
@@ -179,24 +142,6 @@ fn worked(state: State, history: &mut [u32]) -> State {
         history,
         b"(circuit 1)\n(ccz 1 1 1)\n(amp r 1 1 0)\n(step 1)\n(ccz 1 1 1)\n(step 5)\n(undo 1)\n(terms)\n(cz (g 1) (g 1))\n",
     )
-}
-
-fn ccz_sums(state: State, history: &mut [u32]) -> State {
-    let once = one_ccz(state, history);
-    let read = one_ccz_read(once, history);
-    two_ccz(read, history)
-}
-
-fn cnot_sums(state: State, history: &mut [u32]) -> State {
-    let behind = ccz_then_cnot(state, history);
-    cnot_then_ccz(behind, history)
-}
-
-fn sums(state: State, history: &mut [u32]) -> State {
-    let free = no_gates(state, history);
-    let ccz = ccz_sums(free, history);
-    let cz = one_cz(ccz, history);
-    cnot_sums(cz, history)
 }
 
 fn main() {

@@ -17,6 +17,9 @@ use text::read_keyword;
 mod forms;
 pub mod gates;
 
+// The bytes of the longest line that is read, line feed not counted.
+const LONGEST: usize = 1024;
+
 // The twelve forms with their operands, and the refusal of a line that is none of them.
 pub enum Form {
     Circuit(usize),
@@ -157,7 +160,7 @@ fn shape_of_work(line: &[u8]) -> Form
 pub fn read(line: &[u8]) -> Form
     ensures { λ r. ⌜ r ≡ heldReading (readingOf (now (line .entry))) ⌝ }
 {
-    if 1024 < line.len() {
+    if LONGEST < line.len() {
         return Form::Refused(2);
     }
     if !all_allowed(line) {

@@ -6,7 +6,6 @@ use Prim.Native.Nat.{ℕ, suc, _+_, _-_, _*_, _^_, _≤_}
 use native.Mathlib.Omega.{arith}
 use lib.Dec.{ltb}
 use lib.IntN.{pos, natAbs, _*ℤ_, _+ℤ_}
-use lib.ListN.{getD}
 use lib.Pow.{pow-mono}
 use borrow.Author.Tests.{ltb-false}
 use Rattle.gf2.specs.Sums.{sumBelow, sgn}
@@ -16,7 +15,7 @@ use Rattle.gf2.proofs.Bounds.{add-abs}
 use Rattle.circuit.specs.declared.Colour.{Colour}
 use Rattle.circuit.specs.Polynomial.{Polynomial}
 use Rattle.elimination.specs.declared.Outcome.{Outcome}
-use Rattle.elimination.specs.Rows.{Elim, pivots}
+use Rattle.elimination.specs.Rows.{pivots}
 use Rattle.elimination.specs.State.{begun, outcomeOf}
 use Rattle.slices.specs.declared.slice.Slice.{Slice}
 use Rattle.slices.specs.declared.total.Sums.{Sums}
@@ -27,9 +26,6 @@ use Rattle.slices.specs.Answers.{nought, cleared, vanishing, answerOf, a
 use Rattle.slices.specs.Walking.{plusSlice, Walked}
 use Rattle.slices.proofs.Bounds.{signed-abs}
 use Rattle.slices.proofs.OutcomeTests.{share-le}
-
-pub outcome-is : (o : Outcome) (e : Elim) → o .last ≡ getD (e .rows) 16 0 → o .columns ≡ e .columns → o ≡ outcomeOf e
-outcome-is o e p q = ap₂ (λ (x y : ℕ). record { last = x; columns = y }) p q
 
 -- ---- answers
 

@@ -10,6 +10,7 @@ ghost use Rattle.circuit.specs.Words.{wordsOf};
 ghost use Rattle.slices.specs.Packing.{added, withOutput};
 ghost use Rattle.slices.specs.Totals.{strings};
 use circuit::Colour;
+use circuit::polynomial::WORDS;
 
 // The word of the term that holds position `p` of a colour alone.
 fn word_of(colour: Colour, p: usize) -> usize
@@ -35,7 +36,7 @@ fn bit_of(colour: Colour, p: usize) -> usize
 }
 
 // A string of one colour added: `value` has position 1 as the highest of its m digits.
-fn add_string(words: [u32; 289], colour: Colour, m: usize, value: u32) -> [u32; 289]
+fn add_string(words: [u32; WORDS], colour: Colour, m: usize, value: u32) -> [u32; WORDS]
     requires { ⌜ m ≤ 16 ⌝ }
     ensures { λ r. ⌜ ((f : Polynomial) → words ≡ wordsOf f → r ≡ wordsOf (added colour (highFirst m value) f)) ⌝ }
 {
@@ -53,7 +54,7 @@ fn add_string(words: [u32; 289], colour: Colour, m: usize, value: u32) -> [u32; 
 }
 
 // The output string added, by the numbers of its three strings; nothing for an m that no circuit has.
-pub fn with_output(words: [u32; 289], m: usize, r: u32, b: u32, g: u32) -> [u32; 289]
+pub fn with_output(words: [u32; WORDS], m: usize, r: u32, b: u32, g: u32) -> [u32; WORDS]
     ensures { λ s. ⌜ ((f : Polynomial) → words ≡ wordsOf f → s ≡ wordsOf (cond (leb m 16) (withOutput (strings m r b g) f) f)) ⌝ }
 {
     if 16 < m {

@@ -7,6 +7,9 @@ ghost use Rattle.gf2.specs.Words.{bitAt};
 ghost use Rattle.slices.specs.Answers.{vanishing, answerOf, shareOf};
 use elimination::Outcome;
 
+// The bits of a row that are coefficients of the unknowns, 0 to 15. Bit 16 is the right side.
+const UNKNOWNS: u64 = 0xffff;
+
 // What a slice answers: its part of the signed sum, and its rank. The part is the slice's inner sum with the sign of the slice's string
 // beside the output string's. On a table whose sliced colour has zeros, as every readout's, it is the inner sum itself.
 pub struct Slice {
@@ -21,7 +24,7 @@ fn vanishes(outcome: Outcome) -> bool
     if outcome.columns >> 16 & 1 == 1 {
         return true;
     }
-    outcome.last & 65535 != 0
+    outcome.last & UNKNOWNS != 0
 }
 
 // 2^e, negative where bit 16 of the last row is set.
@@ -41,7 +44,7 @@ pub(crate) fn answer(m: u32, outcome: Outcome) -> Slice
     if vanishes(outcome) {
         return Slice { signed: 0, rank: 0 };
     }
-    let rank = u64::count_ones(outcome.columns & 65535);
+    let rank = u64::count_ones(outcome.columns & UNKNOWNS);
     if m < rank {
         return Slice { signed: 0, rank: 0 };
     }

@@ -8,6 +8,14 @@ ghost use Rattle.circuit.specs.Polynomial.{Polynomial};
 ghost use Rattle.circuit.specs.Words.{wordsOf};
 ghost use Rattle.slices.specs.Packing.{rowOf, packedWord, tableOf};
 use circuit::Colour;
+use circuit::INDICES;
+use circuit::polynomial::WORDS;
+
+// The words of a table: the packed rows of each index of a colour.
+pub const TABLE: usize = INDICES * elimination::WORDS;
+
+// The 16 low bits of a row: one for each position of a colour.
+const POSITIONS: u32 = 0xffff;
 
 // The index that row or bit `i` stands for: positions 1 to 16, and last 0.
 fn index_at(i: usize) -> usize
@@ -21,11 +29,11 @@ fn index_at(i: usize) -> usize
 fn rotated(w: u32) -> u32
     ensures { λ r. ⌜ r ≡ rowOf (bitAt w) ⌝ }
 {
-    (w >> 1 & 65535) | ((w & 1) << 16)
+    (w >> 1 & POSITIONS) | ((w & 1) << 16)
 }
 
 // Bit `k` of each of the 17 words from `from` on, as a word.
-fn gathered(words: &[u32; 289], from: usize, k: usize) -> u32
+fn gathered(words: &[u32; WORDS], from: usize, k: usize) -> u32
     requires { ⌜ (from ≤ 272) × (k ≤ 16) ⌝ }
     ensures { λ r. ⌜ r ≡ wordOf 17 (λ j. bitAt (getD (now (words .entry)) (from + j) 0) k) ⌝ }
 {
@@ -39,7 +47,7 @@ fn gathered(words: &[u32; 289], from: usize, k: usize) -> u32
 }
 
 // Row `i` of index `k` of the colour.
-fn row(words: &[u32; 289], colour: Colour, k: usize, i: usize) -> u32
+fn row(words: &[u32; WORDS], colour: Colour, k: usize, i: usize) -> u32
     requires { ⌜ (k ≤ 16) × (i ≤ 16) ⌝ }
     ensures { λ r. ⌜ ((f : Polynomial) → now (words .entry) ≡ wordsOf f → r ≡ rowOf (λ j. f (join colour k ((i + 1) % 17) j))) ⌝ }
 {
@@ -52,7 +60,7 @@ fn row(words: &[u32; 289], colour: Colour, k: usize, i: usize) -> u32
 }
 
 // Word `w` of index `k`: three rows of 21 bits; the last word has only two.
-fn packed(words: &[u32; 289], colour: Colour, k: usize, w: usize) -> u64
+fn packed(words: &[u32; WORDS], colour: Colour, k: usize, w: usize) -> u64
     requires { ⌜ (k ≤ 16) × (w < 6) ⌝ }
     ensures { λ r. ⌜ ((f : Polynomial) → now (words .entry) ≡ wordsOf f → r ≡ packedWord (λ i j. f (join colour k i j)) w) ⌝ }
 {
@@ -66,12 +74,12 @@ fn packed(words: &[u32; 289], colour: Colour, k: usize, w: usize) -> u64
 }
 
 // The table of the polynomial for one colour, six words for each of its indices.
-pub fn table(words: [u32; 289], colour: Colour) -> [u64; 102]
+pub fn table(words: [u32; WORDS], colour: Colour) -> [u64; TABLE]
     ensures { λ r. ⌜ ((f : Polynomial) → words ≡ wordsOf f → r ≡ tableOf colour f) ⌝ }
 {
-    let mut t = [0u64; 102];
+    let mut t = [0u64; TABLE];
     let mut n = 0;
-    while n < 102 {
+    while n < TABLE {
         t[n] = packed(&words, colour, n / 6, n % 6);
         n += 1;
     }

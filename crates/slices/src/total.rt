@@ -16,9 +16,19 @@ ghost use Rattle.slices.specs.Walking.{plusSlice, Walked};
 use crate::slice::Slice;
 use crate::slice::answer;
 use crate::slice::share;
+use crate::table::TABLE;
 use crate::walk::changes;
 use crate::walk::next_rows;
 use crate::walk::rows_at;
+use elimination::WORDS;
+
+// The least and the most that an amplitude's total may be to have slices added. A sum's is at most 2^48 from 0.
+const LEAST: i64 = -(1 << 60);
+
+const MOST: i64 = 1 << 60;
+
+// The most that a readout count may be.
+const MOST_COUNTED: u64 = 1 << 60;
 
 // What some slices add up to: their parts of the signed sum, and their shares of a readout count.
 struct Sums {
@@ -38,7 +48,7 @@ fn with_slice(sums: Sums, m: u32, slice: Slice) -> Sums
 }
 
 // One slice more, by its rows.
-fn with_one(sums: Sums, m: u32, rows: [u64; 6]) -> Sums
+fn with_one(sums: Sums, m: u32, rows: [u64; WORDS]) -> Sums
     requires { ⌜ (m ≤ 16) × (natAbs (sums .signed) ≤ 2 ^ 60) × (sums .shares ≤ 2 ^ 60) ⌝ }
     ensures { λ r. ⌜ r ≡ plusSlice m (answerTo m rows) sums ⌝ }
 {
@@ -46,7 +56,7 @@ fn with_one(sums: Sums, m: u32, rows: [u64; 6]) -> Sums
 }
 
 // Two slices more: their eliminations do not wait for each other.
-fn with_two(sums: Sums, m: u32, rows: [u64; 6], others: [u64; 6]) -> Sums
+fn with_two(sums: Sums, m: u32, rows: [u64; WORDS], others: [u64; WORDS]) -> Sums
     requires { ⌜ (m ≤ 16) × (natAbs (sums .signed) ≤ 2 ^ 59) × (sums .shares ≤ 2 ^ 59) ⌝ }
     ensures { λ r. ⌜ r ≡ plusSlice m (answerTo m others) (plusSlice m (answerTo m rows) sums) ⌝ }
 {
@@ -58,7 +68,7 @@ fn with_two(sums: Sums, m: u32, rows: [u64; 6], others: [u64; 6]) -> Sums
 }
 
 // The slices from `from` on, two at a time as long as there are two.
-fn walk(table: &[u64; 102], m: usize, from: usize, count: usize) -> Sums
+fn walk(table: &[u64; TABLE], m: usize, from: usize, count: usize) -> Sums
     requires { ⌜ (m ≤ 16) × (from + count ≤ 2 ^ m) ⌝ }
     ensures { λ r. ⌜ Walked (now (table .entry)) m from count r ⌝ }
 {
@@ -98,18 +108,18 @@ fn in_range(m: usize, from: usize, count: usize) -> bool
     count <= all - from
 }
 
-// Is the total far from the ends of its type? A sum's total is at most 2^48.
+// Is the total far from the ends of its type?
 fn is_moderate(total: i64) -> bool
     ensures { λ r. ⌜ r ≡ moderate total ⌝ }
 {
-    if total < -1152921504606846976 {
+    if total < LEAST {
         return false;
     }
-    total <= 1152921504606846976
+    total <= MOST
 }
 
 // One slice by its number; nought for a number that no slice has.
-pub fn slice(table: [u64; 102], m: usize, n: usize) -> Slice
+pub fn slice(table: [u64; TABLE], m: usize, n: usize) -> Slice
     ensures { λ x. ⌜ ((gs : List Gate) (C : Colour) (r b g : ℕ) → Tabled m gs C (strings m r b g) table →
         x ≡ cond (areSlices m n 1) (sliceAnswer m (polynomial gs) C (strings m r b g) (highFirst m n)) nought) ⌝ }
 {
@@ -122,7 +132,7 @@ pub fn slice(table: [u64; 102], m: usize, n: usize) -> Slice
 
 // The total of an amplitude with `count` more slices, from slice `from` on. It stays as it is where there are no such slices, and where it
 // is too large for a sum's.
-pub fn amplitude(table: [u64; 102], m: usize, from: usize, count: usize, total: i64) -> i64
+pub fn amplitude(table: [u64; TABLE], m: usize, from: usize, count: usize, total: i64) -> i64
     ensures { λ x. ⌜ ((gs : List Gate) (C : Colour) (r b g : ℕ) → Tabled m gs C (strings m r b g) table →
         x ≡ cond (areSlices m from count && moderate total) (total +ℤ amplitudeOver m (polynomial gs) C (strings m r b g) from count) total) ⌝ }
 {
@@ -138,7 +148,7 @@ pub fn amplitude(table: [u64; 102], m: usize, from: usize, count: usize, total: 
 
 // The readout count with `count` more slices, from slice `from` on. It stays as it is where there are no such slices, and where it is too
 // large for a sum's.
-pub fn readout(table: [u64; 102], m: usize, from: usize, count: usize, total: u64) -> u64
+pub fn readout(table: [u64; TABLE], m: usize, from: usize, count: usize, total: u64) -> u64
     ensures { λ x. ⌜ ((gs : List Gate) (C : Colour) (r b g : ℕ) → Tabled m gs C (strings m r b g) table →
         x ≡ cond (areSlices m from count && moderateCount total)
         (total + readoutOver m (polynomial gs) C (first C (strings m r b g)) (second C (strings m r b g)) from count) total) ⌝ }
@@ -146,7 +156,7 @@ pub fn readout(table: [u64; 102], m: usize, from: usize, count: usize, total: u6
     if !in_range(m, from, count) {
         return total; // a readout has no such slices
     }
-    if 1152921504606846976 < total {
+    if MOST_COUNTED < total {
         return total; // no readout count is so large
     }
     let sums = walk(&table, m, from, count);

@@ -9,9 +9,11 @@ ghost use Rattle.circuit.specs.Polynomial.{Polynomial};
 ghost use Rattle.slices.specs.Slices.{coefficient};
 ghost use Rattle.slices.specs.Packing.{packedWord, packedRows, tableOf};
 ghost use Rattle.slices.specs.Walking.{lastPositions, rowsPlus, rowsNext};
+use crate::table::TABLE;
+use elimination::WORDS;
 
 // Word `w` of the rows with those at index `k` of a table added.
-fn moved_word(rows: [u64; 6], table: &[u64; 102], k: usize, w: usize) -> u64
+fn moved_word(rows: [u64; WORDS], table: &[u64; TABLE], k: usize, w: usize) -> u64
     requires { ⌜ (k ≤ 16) × (w < 6) ⌝ }
     ensures { λ r. ⌜ r ≡ bitXor (getD rows w 0) (getD (now (table .entry)) (6 * k + w) 0) ⌝ }
 {
@@ -19,7 +21,7 @@ fn moved_word(rows: [u64; 6], table: &[u64; 102], k: usize, w: usize) -> u64
 }
 
 // The rows with those at index `k` of a table added.
-fn moved(rows: [u64; 6], table: &[u64; 102], k: usize) -> [u64; 6]
+fn moved(rows: [u64; WORDS], table: &[u64; TABLE], k: usize) -> [u64; WORDS]
     requires { ⌜ k ≤ 16 ⌝ }
     ensures { λ r. ⌜ r ≡ rowsPlus rows (now (table .entry)) k ⌝ }
 {
@@ -42,11 +44,11 @@ fn digit_at(m: usize, p: usize) -> usize
 }
 
 // The rows of slice `n`: those of the constant, and of each position whose digit is 1.
-pub(crate) fn rows_at(table: &[u64; 102], m: usize, n: usize) -> [u64; 6]
+pub(crate) fn rows_at(table: &[u64; TABLE], m: usize, n: usize) -> [u64; WORDS]
     requires { ⌜ m ≤ 16 ⌝ }
     ensures { λ r. ⌜ ((f : Polynomial) (C : Colour) → now (table .entry) ≡ tableOf C f → r ≡ packedRows (coefficient m f C (highFirst m n))) ⌝ }
 {
-    let mut rows = moved([0u64; 6], table, 0);
+    let mut rows = moved([0u64; WORDS], table, 0);
     let mut p = 1;
     while p <= m {
         if n >> digit_at(m, p) & 1 == 1 {
@@ -59,12 +61,12 @@ pub(crate) fn rows_at(table: &[u64; 102], m: usize, n: usize) -> [u64; 6]
 }
 
 // What a step to the next slice adds: at `t`, the rows of the t + 1 last positions.
-pub(crate) fn changes(table: &[u64; 102], m: usize) -> [u64; 102]
+pub(crate) fn changes(table: &[u64; TABLE], m: usize) -> [u64; TABLE]
     requires { ⌜ m ≤ 16 ⌝ }
     ensures { λ r. ⌜ ((f : Polynomial) (C : Colour) → now (table .entry) ≡ tableOf C f → (t w : ℕ) → t < m → w < 6 →
         getD r (6 * t + w) 0 ≡ packedWord (lastPositions m f C t) w) ⌝ }
 {
-    let mut sums = [0u64; 102];
+    let mut sums = [0u64; TABLE];
     let mut n = 0;
     while n < 6 * m {
         let own = table[6 * (m - n / 6) + n % 6];
@@ -79,7 +81,7 @@ pub(crate) fn changes(table: &[u64; 102], m: usize) -> [u64; 102]
 }
 
 // The rows of slice `n` from those of the slice before it.
-pub(crate) fn next_rows(rows: [u64; 6], steps: &[u64; 102], n: usize) -> [u64; 6]
+pub(crate) fn next_rows(rows: [u64; WORDS], steps: &[u64; TABLE], n: usize) -> [u64; WORDS]
     requires { ⌜ (0 < n) × (n ≤ 65536) ⌝ }
     ensures { λ r. ⌜ r ≡ rowsNext rows (now (steps .entry)) n ⌝ }
 {

@@ -129,12 +129,15 @@ pub fn read_colour(line: &[u8], at: usize) -> ColourAt
     ColourAt::Missing
 }
 
+// Bit strings are held by their numbers modulo 2^16: exact up to 16 bits.
+const VALUES: u32 = 1 << 16;
+
 // The number of a bit string with one more bit at its end, so that position 1 is the highest digit.
 fn with_bit(value: u32, bit: u8) -> u32
     requires { ⌜ (value < 65536) × (bit ≤ 1) ⌝ }
     ensures { λ r. ⌜ (r < 65536) × (r ≡ (value * 2 + bit) % 65536) ⌝ }
 {
-    (value * 2 + bit as u32) % 65536
+    (value * 2 + bit as u32) % VALUES
 }
 
 // A bit string of `len` bits, unless there are none.

@@ -12,7 +12,7 @@ put-requires c κs = search needs
 
 returns : tie.Need-returns
 unfolding joined
-returns c = cc (c .before .put .ensures .0, c .before .put .ensures .1)
+returns c = rw (c .before .put .ensures .0, c .before .put .ensures .1)
 
 pub append-spec : {M : Type 1} → statement M
 append-spec = tie.close (tie.spec slice-aggregate-put put-requires returns)

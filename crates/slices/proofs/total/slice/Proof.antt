@@ -3,14 +3,11 @@ use mathlib.Core.Path.{_≡_, sym, _∙_, ap}
 use mathlib.Core.Bool.{false, true}
 use native.Mathlib.Omega.{arith}
 use Rattle.circuit.specs.Polynomial.{polynomial}
-use Rattle.elimination.specs.Rows.{pivots}
-use Rattle.elimination.specs.State.{begun}
 use borrow.Author.Tests.{not-true, not-false}
 use Rattle.slices.specs.Totals.{areSlices, strings}
 use Rattle.slices.specs.Packing.{withOutput}
 use Rattle.slices.specs.Answers.{answerOf, answerTo, answerAt}
 use Rattle.slices.proofs.EntryChecks.{range-holds}
-use Rattle.slices.proofs.SlicesAdded.{outcome-is}
 use Rattle.slices.proofs.SliceTotals.{answers}
 use borrow.Author.Needs.{needs}
 use Rattle.slices.proofs.total.slice.Statement.{statement}
@@ -46,7 +43,7 @@ returns-2 c gs C r b g t =
     let y : areSlices (a .m) (a .n) 1 ≡ true = sym (c .before .before .before .before .before .in-range .ensures) ∙ not-false _ (c .before .before .before .before .if1 .left) in
     rw y
     (c .answer .ensures
-    ∙ ap (answerOf (a .m)) (outcome-is (o .result) (pivots 16 (begun (x .result))) (o .ensures .0) (o .ensures .1))
+    ∙ ap (answerOf (a .m)) (o .ensures)
     ∙ ap (answerTo (a .m)) (x .ensures (withOutput (strings (a .m) r b g) (polynomial gs)) C (t .made))
     ∙ answers (a .m) gs C r b g (a .t1) t (range-holds (a .m) (a .n) 1 y .0) (a .n))
 

@@ -1,10 +1,8 @@
 -- The elimination's outcome, its answer, and the sums with it.
 use mathlib.Core.Path.{_∙_, ap}
-use Rattle.elimination.specs.Rows.{pivots}
-use Rattle.elimination.specs.State.{begun}
 use Rattle.slices.specs.Answers.{answerOf, answerTo}
 use Rattle.slices.specs.Walking.{plusSlice}
-use Rattle.slices.proofs.SlicesAdded.{outcome-is, answer-bounds}
+use Rattle.slices.proofs.SlicesAdded.{answer-bounds}
 use borrow.Author.Needs.{needs}
 use Rattle.slices.proofs.total.with_one.Statement.{statement}
 use Rattle.slices.proofs.total.with_one.Tie as tie
@@ -29,7 +27,7 @@ returns c =
     let o : _ = c .before .before .eliminate in
     c .with-slice .ensures
     ∙ ap (λ x. plusSlice (a .m) x (a .sums))
-    (c .before .answer .ensures ∙ ap (answerOf (a .m)) (outcome-is (o .result) (pivots 16 (begun (a .rows))) (o .ensures .0) (o .ensures .1)))
+    (c .before .answer .ensures ∙ ap (answerOf (a .m)) (o .ensures))
 
 pub with-one-spec : {M : Type 1} → statement M
 with-one-spec = tie.close (tie.spec eliminate-requires answer-requires with-slice-requires returns)
