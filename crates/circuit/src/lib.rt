@@ -78,51 +78,30 @@ pub fn same_colour(a: Colour, b: Colour) -> bool
 pub fn is_position(m: usize, p: usize) -> bool
     ensures { λ r. ⌜ r ≡ isPosition m p ⌝ }
 {
-    if p < 1 {
-        return false;
-    }
-    p <= m
+    (1 <= p) & (p <= m)
 }
 
 // One position of each colour.
 fn is_ccz(m: usize, i: usize, j: usize, k: usize) -> bool
     ensures { λ r. ⌜ r ≡ isGate m (Gate.Ccz i j k) ⌝ }
 {
-    if !is_position(m, i) {
-        return false;
-    }
-    if !is_position(m, j) {
-        return false;
-    }
-    is_position(m, k)
+    is_position(m, i) & (is_position(m, j) & is_position(m, k))
 }
 
 // Positions of two different colours.
 fn is_cz(m: usize, p: Spot, q: Spot) -> bool
     ensures { λ r. ⌜ r ≡ isGate m (Gate.Cz p q) ⌝ }
 {
-    if !is_position(m, p.position) {
-        return false;
-    }
-    if !is_position(m, q.position) {
-        return false;
-    }
     let a = p.colour;
     let b = q.colour;
-    !same_colour(a, b)
+    is_position(m, p.position) & (is_position(m, q.position) & !same_colour(a, b))
 }
 
 // Two different positions of one colour.
 fn is_cnot(m: usize, colour: Colour, c: usize, t: usize) -> bool
     ensures { λ r. ⌜ r ≡ isGate m (Gate.Cnot colour c t) ⌝ }
 {
-    if !is_position(m, c) {
-        return false;
-    }
-    if !is_position(m, t) {
-        return false;
-    }
-    c != t
+    is_position(m, c) & (is_position(m, t) & (c != t))
 }
 
 // Does a circuit of `m` positions have this gate?
