@@ -8,7 +8,7 @@ use native.Mathlib.Omega.{arith}
 use lib.Dec.{eqb}
 use lib.ListN.{length, getD, take, drop, drop-of-length-le, length-drop}
 use lib.Seq.{drop-cons, drop-drop, take-all}
-use borrow.Author.Tests.{le-leb, lt-leb, eq-eqb, ne-eqb, eqb-true, eqb-false}
+use borrow.Author.Tests.{eq-eqb, ne-eqb, eqb-true, eqb-false}
 use Rattle.circuit.specs.declared.Gate.{Gate}
 use Rattle.lines.specs.Spelling.{isAllowed, allAllowed, colourTwice}
 use Rattle.lines.specs.Gates.{readGate}
@@ -27,44 +27,6 @@ pub gate-fits-from : (l : List ℕ) (j : ℕ) (g : Gate) (n : ℕ) → readGate 
 gate-fits-from l j g n h = omega (arith, gate-fits (drop j l) g n h, length-drop j l)
 
 -- ---- the bytes allowed in a line
-
-module _ (x : ℕ) where
-  pub digit-allowed : 48 ≤ x → x ≤ 57 → isAllowed x ≡ true
-  unfolding isAllowed
-  digit-allowed h k = rw (le-leb _ _ h, le-leb _ _ k)
-
-  pub letter-allowed : 57 < x → 97 ≤ x → x ≤ 122 → isAllowed x ≡ true
-  unfolding isAllowed
-  letter-allowed g h k = let f : 48 ≤ x = omega arith in rw (le-leb _ _ f, lt-leb _ _ g, le-leb _ _ h, le-leb _ _ k)
-
-  module _ (no-space : x ≡ 32 → ⊥) (no-left : x ≡ 40 → ⊥) (no-right : x ≡ 41 → ⊥) where
-    pub below-digits : x < 48 → isAllowed x ≡ false
-    unfolding isAllowed
-    below-digits h =
-        let k : x < 97 = omega arith in
-        rw (lt-leb _ _ h, lt-leb _ _ k, ne-eqb _ _ no-left, ne-eqb _ _ no-right, ne-eqb _ _ no-space)
-
-    pub above-digits : 57 < x → x < 97 → isAllowed x ≡ false
-    unfolding isAllowed
-    above-digits h k =
-        let f : 48 ≤ x = omega arith in
-        rw (le-leb _ _ f, lt-leb _ _ h, lt-leb _ _ k, ne-eqb _ _ no-left, ne-eqb _ _ no-right, ne-eqb _ _ no-space)
-
-    pub above-letters : 122 < x → isAllowed x ≡ false
-    unfolding isAllowed
-    above-letters k =
-        let f : 48 ≤ x = omega arith in
-        let g : 57 < x = omega arith in
-        let h : 97 ≤ x = omega arith in
-        rw (
-          le-leb _ _ f,
-          lt-leb _ _ g,
-          le-leb _ _ h,
-          lt-leb _ _ k,
-          ne-eqb _ _ no-left,
-          ne-eqb _ _ no-right,
-          ne-eqb _ _ no-space,
-        )
 
 module _ (l : List ℕ) (i : ℕ) where
   pub allowed-end : length l ≤ i → allAllowed (drop i l) ≡ true

@@ -1,6 +1,6 @@
 // The forms, each from the place behind its keyword on.
 ghost use mathlib.Core.Path.{_≡_};
-ghost use mathlib.Core.Bool.{false, cond, _||_};
+ghost use mathlib.Core.Bool.{false, cond};
 ghost use lib.ListN.{drop};
 ghost use Rattle.lines.specs.Held.{gateForm};
 ghost use Rattle.lines.specs.Spelling.{colourTwice};
@@ -158,12 +158,6 @@ fn layer_form(unclosed: bool, twice: bool, n: usize) -> Form
     Form::Layer(n)
 }
 
-fn either(a: bool, b: bool) -> bool
-    ensures { λ r. ⌜ r ≡ (a || b) ⌝ }
-{
-    if a { true } else { b }
-}
-
 // "What follows that gate is read from the middle of the line on."
 pub(crate) fn layer(line: &[u8], a: usize) -> Form
     ensures { λ r. ⌜ r ≡ specs.layerFrom 0 0 false (drop a (now (line .entry))) ⌝ }
@@ -184,7 +178,7 @@ pub(crate) fn layer(line: &[u8], a: usize) -> Form
             return Form::Refused(4);
         };
         n += 1;
-        twice = either(twice, colour_twice(gate));
+        twice = twice | colour_twice(gate);
         at = from + next;
     }
     Form::Refused(4)

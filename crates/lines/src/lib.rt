@@ -64,28 +64,8 @@ pub enum GateAt {
 fn allowed(b: u8) -> bool
     ensures { λ r. ⌜ r ≡ isAllowed b ⌝ }
 {
-    if b == b' ' {
-        return true;
-    }
-    if b == b'(' {
-        return true;
-    }
-    if b == b')' {
-        return true;
-    }
-    if b < b'0' {
-        return false;
-    }
-    if b <= b'9' {
-        return true;
-    }
-    if b < b'a' {
-        return false;
-    }
-    if b <= b'z' {
-        return true;
-    }
-    false
+    ((b'0' <= b) & (b <= b'9'))
+        | (((b'a' <= b) & (b <= b'z')) | ((b == b'(') | ((b == b')') | (b == b' '))))
 }
 
 fn all_allowed(line: &[u8]) -> bool

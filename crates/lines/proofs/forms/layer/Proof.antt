@@ -32,19 +32,18 @@ layer-form-requires c κs = search needs
 
 returns : tie.Need-returns Inv-loop μ-loop
 returns c =
-    let l = now (c .before .before .before .before .before .before .args .line) in
-    let at = c .before .before .before .before .loop .at in
-    let n = c .before .before .before .before .loop .n in
-    let t = c .before .before .before .before .loop .twice in
-    c .layer-form .ensures ∙ sym (layer-bracket l at n t (omega arith) (c .before .if1 .taken)) ∙ c .before .before .before .before .loop .inv .1
+    let turn = c .before .before .before .before in
+    let l = now (turn .before .before .args .line) in
+    c .layer-form .ensures
+    ∙ sym (layer-bracket l (turn .loop .at) (turn .loop .n) (turn .loop .twice) (omega arith) (c .before .if1 .taken))
+    ∙ turn .loop .inv .1
 
 returns-2 : tie.Need-returns-2 Inv-loop μ-loop
 returns-2 c =
-    let l = now (c .before .before .before .before .before .before .args .line) in
-    let at = c .before .before .before .before .loop .at in
-    let n = c .before .before .before .before .loop .n in
-    let t = c .before .before .before .before .loop .twice in
-    sym (layer-other l at n t (omega arith) (c .before .if1 .left) (c .if2 .taken)) ∙ c .before .before .before .before .loop .inv .1
+    let turn = c .before .before .before .before in
+    let l = now (turn .before .before .args .line) in
+    sym (layer-other l (turn .loop .at) (turn .loop .n) (turn .loop .twice) (omega arith) (c .before .if1 .left) (c .if2 .taken))
+    ∙ turn .loop .inv .1
 
 sub-first-gate : tie.Need-sub-first-gate Inv-loop μ-loop
 sub-first-gate c = search needs
@@ -66,12 +65,14 @@ enum-told c = search needs
 
 returns-3 : tie.Need-returns-3 Inv-loop μ-loop
 returns-3 c =
-    let l = now (c .before .before .before .before .before .before .before .before .before .before .args .line) in
-    let at = c .before .before .before .before .before .before .before .before .loop .at in
-    let n = c .before .before .before .before .before .before .before .before .loop .n in
-    let t = c .before .before .before .before .before .before .before .before .loop .twice in
-    sym (layer-no-gate l at n t (omega arith) (c .before .before .before .before .if2 .left) (ap readGate (sym (part-all l (at + 1))) ∙ sym (c .before .before .first-gate .ensures) ∙ c .enum-told .given .1))
-    ∙ c .before .before .before .before .before .before .before .before .loop .inv .1
+    let read = c .before .before in
+    let space = read .before .before in
+    let turn = space .before .before .before .before in
+    let l = now (turn .before .before .args .line) in
+    let at = turn .loop .at in
+    sym (layer-no-gate l at (turn .loop .n) (turn .loop .twice) (omega arith) (space .if2 .left)
+    (ap readGate (sym (part-all l (at + 1))) ∙ sym (read .first-gate .ensures) ∙ c .enum-told .given .1))
+    ∙ turn .loop .inv .1
 
 add-n : tie.Need-add-n Inv-loop μ-loop
 add-n c = search needs
@@ -79,38 +80,40 @@ add-n c = search needs
 colour-twice-requires : tie.Need-colour-twice-requires Inv-loop μ-loop
 colour-twice-requires c κs = search needs
 
-either-requires : tie.Need-either-requires Inv-loop μ-loop
-either-requires c κs = search needs
-
 add-at : tie.Need-add-at Inv-loop μ-loop
 add-at c =
-    let l = now (c .before .before .before .before .before .before .before .before .before .before .before .before .before .args .line) in
-    let at = c .before .before .before .before .before .before .before .before .before .before .before .loop .at in
-    omega (arith, gate-fits-from l (at + 1) _ _ (ap readGate (sym (part-all l (at + 1))) ∙ sym (c .before .before .before .before .before .first-gate .ensures) ∙ c .before .before .before .gate .given .1))
+    let told = c .before .before in
+    let read = told .before .before in
+    let turn = read .before .before .before .before .before .before in
+    let l = now (turn .before .before .args .line) in
+    let from = turn .loop .at + 1 in
+    omega (arith, gate-fits-from l from _ _ (ap readGate (sym (part-all l from)) ∙ sym (read .first-gate .ensures) ∙ told .gate .given .1))
 
 loop-less : tie.Need-loop-less Inv-loop μ-loop
 loop-less c = search needs
 
 loop-again : tie.Need-loop-again Inv-loop μ-loop
 loop-again c =
-    let l = now (c .before .before .before .before .before .before .before .before .before .before .before .before .before .args .line) in
-    let at = c .before .before .before .before .before .before .before .before .before .before .before .loop .at in
-    let n = c .before .before .before .before .before .before .before .before .before .before .before .loop .n in
-    let t = c .before .before .before .before .before .before .before .before .before .before .before .loop .twice in
-    let next = c .before .before .before .gate .given .0 .1 .0 in (
+    let told = c .before .before in
+    let read = told .before .before in
+    let space = read .before .before in
+    let turn = space .before .before .before .before in
+    let l = now (turn .before .before .args .line) in
+    let at = turn .loop .at in
+    let n = turn .loop .n in
+    let t = turn .loop .twice in
+    let next = told .gate .given .0 .1 .0 in (
       search needs,
-      ap (λ (u : Bool). layerFrom 0 (n + 1) u (drop (at + 1 + next) l)) (c .either .ensures ∙ ap (λ (u : Bool). t || u) (c .before .colour-twice .ensures))
-          ∙ sym (layer-on l at n t (omega arith) (c .before .before .before .before .before .before .before .if2 .left) (ap readGate (sym (part-all l (at + 1))) ∙ sym (c .before .before .before .before .before .first-gate .ensures) ∙ c .before .before .before .gate .given .1))
-          ∙ c .before .before .before .before .before .before .before .before .before .before .before .loop .inv .1,
+      ap (λ (u : Bool). layerFrom 0 (n + 1) (t || u) (drop (at + 1 + next) l)) (c .colour-twice .ensures)
+          ∙ sym (layer-on l at n t (omega arith) (space .if2 .left) (ap readGate (sym (part-all l (at + 1))) ∙ sym (read .first-gate .ensures) ∙ told .gate .given .1))
+          ∙ turn .loop .inv .1,
     )
 
 returns-4 : tie.Need-returns-4 Inv-loop μ-loop
 returns-4 c =
-    let l = now (c .before .before .before .args .line) in
-    let at = c .before .loop .at in
-    let n = c .before .loop .n in
-    let t = c .before .loop .twice in
-    sym (layer-out l at n t (omega arith)) ∙ c .before .loop .inv .1
+    let turn = c .before in
+    let l = now (turn .before .before .args .line) in
+    sym (layer-out l (turn .loop .at) (turn .loop .n) (turn .loop .twice) (omega arith)) ∙ turn .loop .inv .1
 
 pub layer-spec : {M : Type 1} → statement M
 layer-spec =
@@ -133,7 +136,6 @@ layer-spec =
     returns-3
     add-n
     colour-twice-requires
-    either-requires
     add-at
     loop-less
     loop-again
