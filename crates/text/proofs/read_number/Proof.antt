@@ -66,17 +66,17 @@ shared-slice-read-b c = search needs
 
 returns-5 : tie.Need-returns-5 Inv-loop μ-loop
 returns-5 c =
-    let l = now (c .before .before .before .before .before .before .before .before .before .before .before .args .line) in
-    let v = c .before .before .before .loop .value in
-    let i = c .before .before .before .loop .i in
-    sym (digits-low l v i (omega arith) (omega arith)) ∙ c .before .before .before .loop .inv .1
+    let turn = c .before .before .before in
+    let tested = turn .before .before .before .before in
+    let l = now (tested .before .before .before .before .args .line) in
+    sym (digits-low l (turn .loop .value) (turn .loop .i) (omega arith) (omega arith)) ∙ turn .loop .inv .1
 
 returns-6 : tie.Need-returns-6 Inv-loop μ-loop
 returns-6 c =
-    let l = now (c .before .before .before .before .before .before .before .before .before .before .before .before .args .line) in
-    let v = c .before .before .before .before .loop .value in
-    let i = c .before .before .before .before .loop .i in
-    sym (digits-high l v i (omega arith) (omega arith) (omega arith)) ∙ c .before .before .before .before .loop .inv .1
+    let turn = c .before .before .before .before in
+    let tested = turn .before .before .before .before in
+    let l = now (tested .before .before .before .before .args .line) in
+    sym (digits-high l (turn .loop .value) (turn .loop .i) (omega arith) (omega arith) (omega arith)) ∙ turn .loop .inv .1
 
 mul-cap : tie.Need-mul-cap Inv-loop μ-loop
 mul-cap c = search needs
@@ -98,21 +98,23 @@ loop-less c = search needs
 
 loop-again : tie.Need-loop-again Inv-loop μ-loop
 loop-again c =
-    let l = now (c .before .before .before .before .before .before .before .before .before .before .before .before .before .before .args .line) in
-    let v = c .before .before .before .before .before .before .loop .value in
-    let i = c .before .before .before .before .before .before .loop .i in (
+    let turn = c .before .before .before .before .before .before in
+    let tested = turn .before .before .before .before in
+    let l = now (tested .before .before .before .before .args .line) in
+    let v = turn .loop .value in
+    let i = turn .loop .i in (
       omega (arith, c .cap .ensures),
       ap (λ (w : ℕ). digitsFrom w (i + 1) (drop (i + 1) l)) (c .cap .ensures ∙ ap (λ (w : ℕ). capped (v * 10 + w)) (c .before .wide2 .ensures))
           ∙ sym (digits-on l v i (omega arith) (omega arith) (omega arith))
-          ∙ c .before .before .before .before .before .before .loop .inv .1,
+          ∙ turn .loop .inv .1,
     )
 
 returns-7 : tie.Need-returns-7 Inv-loop μ-loop
 returns-7 c =
-    let l = now (c .before .before .before .before .before .before .before .before .before .args .line) in
-    let v = c .before .loop .value in
-    let i = c .before .loop .i in
-    sym (digits-end l v i (omega arith)) ∙ c .before .loop .inv .1
+    let turn = c .before in
+    let tested = turn .before .before .before .before in
+    let l = now (tested .before .before .before .before .args .line) in
+    sym (digits-end l (turn .loop .value) (turn .loop .i) (omega arith)) ∙ turn .loop .inv .1
 
 pub read-number-spec : {M : Type 1} → statement M
 read-number-spec =

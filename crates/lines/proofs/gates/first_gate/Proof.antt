@@ -39,9 +39,11 @@ cz-requires c κs = search needs
 returns-2 : tie.Need-returns-2
 unfolding readGate
 returns-2 c =
+    let second = c .before .before in
+    let first = second .before .before .before .before in
     rw (
-      sym (c .before .before .before .before .before .before .before .before .read-keyword .ensures) ∙ c .before .before .before .before .before .before .enum-told .given .1,
-      sym (c .before .before .before .before .read-keyword2 .ensures) ∙ c .before .before .a2 .given .1,
+      sym (first .before .before .read-keyword .ensures) ∙ first .enum-told .given .1,
+      sym (second .before .before .read-keyword2 .ensures) ∙ second .a2 .given .1,
     )
     (c .cz .ensures)
 
@@ -63,10 +65,13 @@ cnot-requires c κs = search needs
 returns-3 : tie.Need-returns-3
 unfolding readGate
 returns-3 c =
+    let third = c .before .before in
+    let second = third .before .before .before .before in
+    let first = second .before .before .before .before in
     rw (
-      sym (c .before .before .before .before .before .before .before .before .before .before .before .before .read-keyword .ensures) ∙ c .before .before .before .before .before .before .before .before .before .before .enum-told .given .1,
-      sym (c .before .before .before .before .before .before .before .before .read-keyword2 .ensures) ∙ c .before .before .before .before .before .before .enum-told2 .given .1,
-      sym (c .before .before .before .before .read-keyword3 .ensures) ∙ c .before .before .a3 .given .1,
+      sym (first .before .before .read-keyword .ensures) ∙ first .enum-told .given .1,
+      sym (second .before .before .read-keyword2 .ensures) ∙ second .enum-told2 .given .1,
+      sym (third .before .before .read-keyword3 .ensures) ∙ third .a3 .given .1,
     )
     (c .cnot .ensures)
 
@@ -76,9 +81,11 @@ enum-told-3 c = search needs
 returns-4 : tie.Need-returns-4
 unfolding readGate
 returns-4 c =
+    let second = c .before .before .before .before in
+    let first = second .before .before .before .before in
     rw (
-      sym (c .before .before .before .before .before .before .before .before .before .before .read-keyword .ensures) ∙ c .before .before .before .before .before .before .before .before .enum-told .given .1,
-      sym (c .before .before .before .before .before .before .read-keyword2 .ensures) ∙ c .before .before .before .before .enum-told2 .given .1,
+      sym (first .before .before .read-keyword .ensures) ∙ first .enum-told .given .1,
+      sym (second .before .before .read-keyword2 .ensures) ∙ second .enum-told2 .given .1,
       sym (c .before .before .read-keyword3 .ensures) ∙ c .enum-told3 .given .1,
     )
 
