@@ -1,0 +1,186 @@
+// Standard input and output of the program, which someone may have made non-blocking. A call that was interrupted or would block is neither the
+// end of the input nor a failed write: it is made again after a pause. What is made of a call's answer is proved. The contracts of the system's
+// calls do not tell which bytes they move: that the calls are made, and each line on standard error, is read off the code and tested.
+ghost use mathlib.Core.Bool.{false};
+ghost use mathlib.Core.Path.{_≡_};
+ghost use Prim.Native.Nat.{_-_, _≤_};
+ghost use lib.IntN.{pos, negsuc};
+ghost use lib.ListN.{length};
+ghost use Rattle.libc.specs.Io.{Moved};
+ghost use Rattle.streams.specs.Streams.{failedCall, triesAgain, afterWrite, Settled, Stopped};
+use libc::EAGAIN;
+use libc::EINTR;
+use libc::STDIN_FILENO;
+use libc::STDOUT_FILENO;
+use libc::types::timespec;
+
+// A proved loop has to end, and nothing says that a stream that would block is ever ready: the pauses are counted down from a number that no run
+// uses up.
+const MOST_PAUSES: u64 = u64::MAX;
+
+// What a call answered, and the error number right after it, which means something only where the answer is negative.
+pub struct Answer {
+    pub got: isize,
+    pub error: i32,
+}
+
+// What a write call leaves to do.
+pub enum Progress {
+    // Nothing: all bytes are written.
+    Done,
+    // The bytes from this position on, at once.
+    Rest(usize),
+    // The same bytes, after a pause.
+    Later,
+    // Nothing: it failed for good.
+    Failed,
+}
+
+// How a write ended: where its last call began, what that call answered, and whether all bytes were written.
+pub struct Written {
+    pub at: usize,
+    pub last: Answer,
+    pub whole: bool,
+}
+
+// About a millisecond. Where a signal ends it early, the call after it comes early too, and that does no harm.
+fn pause() {
+    let asked = timespec {
+        tv_sec: 0,
+        tv_nsec: 1000000,
+    };
+    let mut left = timespec {
+        tv_sec: 0,
+        tv_nsec: 0,
+    };
+    libc::nanosleep(&asked, &mut left);
+}
+
+fn failed(answer: Answer) -> bool
+    ensures { λ r. ⌜ r ≡ failedCall (answer .got) ⌝ }
+{
+    answer.got < 0
+}
+
+// Whether the call was interrupted or would block, so that it is to be made again.
+fn tries_again(answer: Answer) -> bool
+    ensures { λ r. ⌜ r ≡ triesAgain (answer .got) (answer .error) ⌝ }
+{
+    failed(answer) && (answer.error == EINTR || answer.error == EAGAIN)
+}
+
+// What a write call of the bytes from `at` on leaves to do.
+fn after_write(bytes: &[u8], at: usize, last: Answer) -> Progress
+    requires { ⌜ at ≤ length (now bytes) ⌝ }
+    ensures { λ r. ⌜ r ≡ afterWrite at (length (now (bytes .entry))) (last .got) (last .error) ⌝ }
+{
+    let next = at + io::count(last.got, &bytes[at..]);
+    if next == bytes.len() {
+        return Progress::Done;
+    }
+    if at < next {
+        return Progress::Rest(next);
+    }
+    if !tries_again(last) {
+        return Progress::Failed;
+    }
+    Progress::Later
+}
+
+// What a stream counts as having answered once the pauses are used up: a failure.
+fn given_up() -> Answer
+    ensures { λ r. ⌜ r ≡ record { got = negsuc 0; error = pos 0 } ⌝ }
+{
+    Answer { got: -1, error: 0 }
+}
+
+fn read_once(chunk: &mut [u8]) -> Answer
+    ensures { λ r. ⌜ Moved (length (now (chunk .entry))) (r .got) ⌝ }
+{
+    let got = libc::read(STDIN_FILENO, chunk);
+    let error = os::errno();
+    Answer { got, error }
+}
+
+fn write_once(bytes: &[u8], at: usize) -> Answer
+    requires { ⌜ at ≤ length (now bytes) ⌝ }
+    ensures { λ r. ⌜ Moved (length (now (bytes .entry)) - at) (r .got) ⌝ }
+{
+    let got = libc::write(STDOUT_FILENO, &bytes[at..]);
+    let error = os::errno();
+    Answer { got, error }
+}
+
+// Where a read failed for good, a line on standard error says why: the error number is still that of the call.
+fn read_failed(answer: Answer) -> Answer
+    ensures { λ r. ⌜ r ≡ answer ⌝ }
+{
+    os::fail(b"session: standard input");
+    answer
+}
+
+// Reads once, as soon as there is something to read or the input has ended.
+pub fn read(chunk: &mut [u8]) -> Answer
+    ensures { λ r. ⌜ Settled (length (now (chunk .entry))) r ⌝ }
+{
+    let mut left = MOST_PAUSES;
+    while left > 0 {
+        let answer = read_once(chunk);
+        if !tries_again(answer) {
+            if failed(answer) {
+                return read_failed(answer);
+            }
+            return answer;
+        }
+        pause();
+        left -= 1;
+    }
+    read_failed(given_up())
+}
+
+// Where a write failed for good, a line on standard error says why: the error number is still that of its last call.
+fn write_failed(at: usize, last: Answer) -> Written
+    ensures { λ r. ⌜ r ≡ record { at = at; last = last; whole = false } ⌝ }
+{
+    os::fail(b"session: standard output");
+    Written {
+        at,
+        last,
+        whole: false,
+    }
+}
+
+// Writes all bytes, in as many calls as it takes, the first of them on the whole. Of no bytes it makes no call.
+pub fn write(bytes: &[u8]) -> Written
+    ensures { λ r. ⌜ Stopped (length (now (bytes .entry))) r ⌝ }
+{
+    let mut at = 0;
+    if bytes.len() == 0 {
+        return Written {
+            at,
+            last: Answer { got: 0, error: 0 },
+            whole: true,
+        };
+    }
+    let mut left = MOST_PAUSES;
+    while left > 0 {
+        let last = write_once(bytes, at);
+        let progress = after_write(bytes, at, last);
+        match progress {
+            Progress::Done => {
+                return Written {
+                    at,
+                    last,
+                    whole: true,
+                };
+            }
+            Progress::Rest(next) => at = next,
+            Progress::Later => {
+                pause();
+                left -= 1;
+            }
+            Progress::Failed => return write_failed(at, last),
+        }
+    }
+    write_failed(at, given_up())
+}
