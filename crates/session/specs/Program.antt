@@ -1,5 +1,6 @@
 -- What the program holds of a session, and where it ends. The contracts of the system's `read` and `write` do not tell which bytes they move. So
--- that they move those that they report, and that the program makes these calls, is read off the code and tested.
+-- that they move those that they report, and that the program makes these calls, is read off the code and tested. When such a call is made again,
+-- and when a read or a write is over, is what `streams` proves.
 use mathlib.Core.Bool.{true, false}
 use mathlib.Core.List.{List, [], _∷_, _++_, flatten}
 use mathlib.Core.Path.{_≡_}
@@ -48,7 +49,7 @@ abbrev pub EachSome : List (List ℕ) → Type 0
 EachSome [] = Unit {0}
 EachSome (d ∷ ds) = (1 ≤ length d) × EachSome ds
 
--- After any number of turns. Free is only `reads`, what the read calls delivered one after the other; together they are the input. Nothing waits.
+-- After any number of turns. Free is only `reads`, what the reads delivered one after the other; together they are the input. Nothing waits.
 -- If the program stops and no write failed, state and history are those of the session of all that the reads delivered.
 pub record Ran (r : Reading) (history out : List ℕ) : Type 0 where
   pub reads : List (List ℕ)

@@ -1,4 +1,4 @@
--- What the program's functions promise each other of a turn: what is made of each answer of the system's `read` and `write`.
+-- What the program's functions promise each other of a turn: what is made of what a read and a write of `streams` gave.
 use mathlib.Core.Bool.{true, false, _&&_}
 use mathlib.Core.List.{List, [], _++_}
 use mathlib.Core.Path.{_≡_}
@@ -29,7 +29,7 @@ firstReading =
       left = mostReads;
     }
 
--- What a read call delivered that answered `got`: so many bytes at the front of the chunk, and none at the input's end or where it failed.
+-- What a read delivered that answered `got`: so many bytes at the front of the chunk, and none at the input's end or where it failed.
 unfoldable pub delivered : ℤ → List ℕ → List ℕ
 delivered got chunk = take (clamped got (length chunk)) chunk
 
@@ -64,7 +64,7 @@ pub record Flushed (r : Reading) (w : Waiting) (r' : Reading) : Type 0 where
   pub more : r' .more ≡ (r .more && w .sound)
   pub left : r' .left ≡ r .left
 
--- A turn: what was read is taken, and nothing waits after it. Free is only `got`, what the read call answered. So many bytes of the buffer, `waited`,
+-- A turn: what was read is taken, and nothing waits after it. Free is only `got`, what the read answered. So many bytes of the buffer, `waited`,
 -- held what was said since the last write: they are what the turn has to write at its end.
 pub record Turned (input : List ℕ) (r : Reading) (h₀ out₀ : List ℕ) (f : Follows input r h₀ out₀) (chunk : List ℕ) (r' : Reading) (history out : List ℕ) : Type 0 where
   pub got : ℤ

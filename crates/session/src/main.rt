@@ -14,8 +14,6 @@ ghost use Rattle.session.specs.Turns.{FailureKept, FollowsOn, LastSaid, 
 ghost use Rattle.session.specs.Program.{Waits, At, Follows, Ran};
 use engine::State;
 use framing::Pending;
-use libc::STDIN_FILENO;
-use libc::STDOUT_FILENO;
 
 // Every term of a polynomial over 16 positions: 16^3 of three positions, 3 times 16^2 of two.
 const MOST_TERMS: usize = 4864;
@@ -58,7 +56,8 @@ fn emptied(written: bool) -> Waiting
     }
 }
 
-// Writes what waits; only here is anything written. After a write that failed nothing more is.
+// Writes what waits; only here is standard output written. After a write that failed nothing more is, so that its line on standard error comes
+// once.
 fn flush(out: &[u8], waiting: Waiting) -> Waiting
     ensures { λ r. ⌜ r .len ≡ 0 ⌝ }
     ensures { λ r. ⌜ FailureKept waiting r ⌝ }
@@ -68,7 +67,8 @@ fn flush(out: &[u8], waiting: Waiting) -> Waiting
     if !sound {
         return emptied(false);
     }
-    emptied(io::write_all(STDOUT_FILENO, framing::front(out, len)))
+    let written = streams::write(framing::front(out, len));
+    emptied(written.whole)
 }
 
 // An answer line with its line feed, behind those that wait; where there is no room, these are written first.
@@ -201,7 +201,7 @@ fn take_last(reading: Reading, history: &mut [u32], out: &mut [u8]) -> Session
     take_pending(reading.session, history, out, pending)
 }
 
-// What a read call that answered `got` delivered to the front of the chunk; nothing is the end of the input.
+// What a read that answered `got` delivered to the front of the chunk; nothing is the end of the input, and so is a read that failed.
 fn take_read(
     reading: Reading,
     history: &mut [u32],
@@ -246,15 +246,15 @@ fn after_flush(reading: Reading, flushed: Waiting) -> Reading
     }
 }
 
-// Reads once, takes what was read, and writes what is answered.
+// Reads once, which may take several calls, takes what was read, and writes what is answered.
 fn turn(reading: Reading, history: &mut [u32], out: &mut [u8], chunk: &mut [u8]) -> Reading
     requires { ⌜ 1 ≤ reading .left ⌝ }
     ensures { λ r. ⌜ ((input : List ℕ) (f : Follows input reading (now (history .entry)) (now (out .entry))) →
         Turned input reading (now (history .entry)) (now (out .entry)) f (now (chunk .exit)) r (now (history .exit)) (now (out .exit))) ⌝ }
     ensures { λ r. ⌜ FailureKept (reading .session .waiting) (r .session .waiting) ⌝ }
 {
-    let got = libc::read(STDIN_FILENO, chunk);
-    let taken = take_read(reading, history, out, chunk, got);
+    let answer = streams::read(chunk);
+    let taken = take_read(reading, history, out, chunk, answer.got);
     let waiting = taken.session.waiting;
     let flushed = flush(out, waiting);
     after_flush(taken, flushed)

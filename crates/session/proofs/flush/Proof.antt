@@ -16,8 +16,8 @@ returns c = let left = c .emptied .ensures in (ap (λ (w : Waiting). w .len) lef
 front-requires : tie.Need-front-requires
 front-requires c κs = search needs
 
-write-all-requires : tie.Need-write-all-requires
-write-all-requires c κs = search needs
+write-requires : tie.Need-write-requires
+write-requires c κs = search needs
 
 emptied-requires-2 : tie.Need-emptied-requires-2
 emptied-requires-2 c κs = search needs
@@ -35,6 +35,6 @@ flush-spec =
     emptied-requires
     returns
     front-requires
-    write-all-requires
+    write-requires
     emptied-requires-2
     returns-2)

@@ -1,4 +1,4 @@
--- What the read call answered is taken, and what the write answered is heeded.
+-- What the read answered is taken, and what the write answered is heeded.
 use mathlib.Core.Path.{ap, _∙_}
 use Rattle.session.specs.declared.Waiting.{Waiting}
 use Rattle.session.proofs.TurnsTaken.{turn-taken}
@@ -25,7 +25,7 @@ same-length-2 : tie.Need-same-length-2
 same-length-2 c = search needs
 
 same-length-3 : tie.Need-same-length-3
-same-length-3 c = let read = c .before .before .before .before .before .before .before .before .before .before .before .before in search needs
+same-length-3 c = let read = c .before .before .before .before .before .before .before .before .before .before .before .before .before in search needs
 
 returns : tie.Need-returns
 returns c =
