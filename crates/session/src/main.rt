@@ -253,8 +253,8 @@ fn turn(reading: Reading, history: &mut [u32], out: &mut [u8], chunk: &mut [u8])
         Turned input reading (now (history .entry)) (now (out .entry)) f (now (chunk .exit)) r (now (history .exit)) (now (out .exit))) ⌝ }
     ensures { λ r. ⌜ FailureKept (reading .session .waiting) (r .session .waiting) ⌝ }
 {
-    let answer = streams::read(chunk);
-    let taken = take_read(reading, history, out, chunk, answer.got);
+    let read = streams::read(chunk);
+    let taken = take_read(reading, history, out, chunk, read.last.got);
     let waiting = taken.session.waiting;
     let flushed = flush(out, waiting);
     after_flush(taken, flushed)

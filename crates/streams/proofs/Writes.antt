@@ -9,10 +9,10 @@ use lib.Dec.{eqb, ltb}
 use lib.IntN.{ℤ, pos, negsuc}
 use lib.ListN.{length, take, drop, length-drop}
 use lib.Seq.{length-take-le}
-use borrow.Author.Tests.{eqb-false, ltb-true, ne-eqb, le-ltb}
+use borrow.Author.Tests.{eqb-false, ltb-true}
 use Rattle.io.specs.Counts.{clamped}
 use Rattle.streams.specs.declared.Progress.the-variants.{Done, Rest, Later, Failed}
-use Rattle.streams.specs.Streams.{reached, afterWrite, triesAgain, failedCall, transient, errorIs}
+use Rattle.streams.specs.Streams.{reached, afterWrite, triesAgain}
 
 -- What a call from a position on is given.
 pub rest-length : (l : List ℕ) (at : ℕ) → length (take (length l - at) (drop at l)) ≡ length l - at
@@ -23,10 +23,10 @@ clamped-within (pos k) most = min-le-right k most
 clamped-within (negsuc k) most = zero-le
 
 -- A call that leaves a rest brings the write further, and not to its end.
-pub rest-left : (at len : ℕ) (got error : ℤ) (next : ℕ) → at ≤ len → afterWrite at len got error ≡ Rest next → (at < next) × (next < len)
+pub rest-left : (at len : ℕ) (got error : ℤ) (pauses next : ℕ) → at ≤ len → afterWrite at len got error pauses ≡ Rest next → (at < next) × (next < len)
 unfolding afterWrite
-rest-left at len got error next begun =
-    go (clamped got (len - at)) (eqb (reached at len got) len) refl (ltb at (reached at len got)) refl (triesAgain got error) (clamped-within got (len - at))
+rest-left at len got error pauses next begun =
+    go (clamped got (len - at)) (eqb (reached at len got) len) refl (ltb at (reached at len got)) refl (triesAgain got error pauses) (clamped-within got (len - at))
   where
     go : (k : ℕ) (whole : Bool) → eqb (at + k) len ≡ whole → (some : Bool) → ltb at (at + k) ≡ some → (again : Bool) → k ≤ len - at
         → cond whole Done (cond some (Rest (at + k)) (cond again Later Failed)) ≡ Rest next → (at < next) × (next < len)
@@ -36,12 +36,18 @@ rest-left at len got error next begun =
     go k false w false s true within e = let z : _≡_ {A = ℕ} 0 1 = cc in absurd (omega arith)
     go k false w false s false within e = let z : _≡_ {A = ℕ} 0 1 = cc in absurd (omega arith)
 
+-- A call that is put off is one that is made again.
+pub later-again : (at len : ℕ) (got error : ℤ) (pauses : ℕ) → afterWrite at len got error pauses ≡ Later → triesAgain got error pauses ≡ true
+unfolding afterWrite
+later-again at len got error pauses = go (eqb (reached at len got) len) (ltb at (reached at len got)) (triesAgain got error pauses)
+  where
+    go : (whole some again : Bool) → cond whole Done (cond some (Rest (reached at len got)) (cond again Later Failed)) ≡ Later → again ≡ true
+    go true some again e = let z : _≡_ {A = ℕ} 0 1 = cc in absurd (omega arith)
+    go false true again e = let z : _≡_ {A = ℕ} 0 1 = cc in absurd (omega arith)
+    go false false true e = refl
+    go false false false e = let z : _≡_ {A = ℕ} 0 1 = cc in absurd (omega arith)
+
 -- Of no bytes nothing is left.
-pub nothing-done : (len : ℕ) → len ≡ 0 → afterWrite 0 len (pos 0) (pos 0) ≡ Done
+pub nothing-done : (len : ℕ) → len ≡ 0 → afterWrite 0 len (pos 0) (pos 0) 0 ≡ Done
 unfolding afterWrite
 nothing-done len none = rw none
-
--- Where a rest was left and the stream counts as failed, the write has failed.
-pub given-up-failed : (at len : ℕ) → at < len → afterWrite at len (negsuc 0) (pos 0) ≡ Failed
-unfolding afterWrite triesAgain failedCall transient errorIs
-given-up-failed at len left = rw (ne-eqb (at + 0) len (λ e. omega arith), le-ltb at (at + 0) (omega arith))

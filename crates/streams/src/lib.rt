@@ -4,24 +4,37 @@
 ghost use mathlib.Core.Bool.{false};
 ghost use mathlib.Core.Path.{_≡_};
 ghost use Prim.Native.Nat.{_-_, _≤_};
-ghost use lib.IntN.{pos, negsuc};
 ghost use lib.ListN.{length};
 ghost use Rattle.libc.specs.Io.{Moved};
-ghost use Rattle.streams.specs.Streams.{failedCall, triesAgain, afterWrite, Settled, Stopped};
+ghost use Rattle.streams.specs.Streams.{failedCall, transientError, triesAgain, afterWrite, Settled, Stopped};
 use libc::EAGAIN;
 use libc::EINTR;
 use libc::STDIN_FILENO;
 use libc::STDOUT_FILENO;
 use libc::types::timespec;
 
-// A proved loop has to end, and nothing says that a stream that would block is ever ready: the pauses are counted down from a number that no run
-// uses up.
+// A proved loop has to end, and nothing says that a stream that would block is ever ready. No run makes so many pauses.
 const MOST_PAUSES: u64 = u64::MAX;
 
 // What a call answered, and the error number right after it, which means something only where the answer is negative.
 pub struct Answer {
     pub got: isize,
     pub error: i32,
+}
+
+// How a read ended: what its last call answered, how many pauses were made, and whether it failed for good.
+pub struct ReadOutcome {
+    pub last: Answer,
+    pub pauses: u64,
+    pub failed: bool,
+}
+
+// How a write ended: where its last call began, what that call answered, how many pauses were made, and whether all bytes were written.
+pub struct WriteOutcome {
+    pub at: usize,
+    pub last: Answer,
+    pub pauses: u64,
+    pub whole: bool,
 }
 
 // What a write call leaves to do.
@@ -34,13 +47,6 @@ pub enum Progress {
     Later,
     // Nothing: it failed for good.
     Failed,
-}
-
-// How a write ended: where its last call began, what that call answered, and whether all bytes were written.
-pub struct Written {
-    pub at: usize,
-    pub last: Answer,
-    pub whole: bool,
 }
 
 // About a millisecond. Where a signal ends it early, the call after it comes early too, and that does no harm.
@@ -62,17 +68,26 @@ fn failed(answer: Answer) -> bool
     answer.got < 0
 }
 
-// Whether the call was interrupted or would block, so that it is to be made again.
-fn tries_again(answer: Answer) -> bool
-    ensures { λ r. ⌜ r ≡ triesAgain (answer .got) (answer .error) ⌝ }
+fn transient(error: i32) -> bool
+    ensures { λ r. ⌜ r ≡ transientError error ⌝ }
 {
-    failed(answer) && (answer.error == EINTR || answer.error == EAGAIN)
+    error == EINTR || error == EAGAIN
+}
+
+// Whether a call is to be made again, after so many pauses: it was interrupted, or would block.
+fn tries_again(answer: Answer, pauses: u64) -> bool
+    ensures { λ r. ⌜ r ≡ triesAgain (answer .got) (answer .error) pauses ⌝ }
+{
+    if pauses >= MOST_PAUSES {
+        return false;
+    }
+    failed(answer) && transient(answer.error)
 }
 
 // What a write call of the bytes from `at` on leaves to do.
-fn after_write(bytes: &[u8], at: usize, last: Answer) -> Progress
+fn after_write(bytes: &[u8], at: usize, last: Answer, pauses: u64) -> Progress
     requires { ⌜ at ≤ length (now bytes) ⌝ }
-    ensures { λ r. ⌜ r ≡ afterWrite at (length (now (bytes .entry))) (last .got) (last .error) ⌝ }
+    ensures { λ r. ⌜ r ≡ afterWrite at (length (now (bytes .entry))) (last .got) (last .error) pauses ⌝ }
 {
     let next = at + io::count(last.got, &bytes[at..]);
     if next == bytes.len() {
@@ -81,17 +96,10 @@ fn after_write(bytes: &[u8], at: usize, last: Answer) -> Progress
     if at < next {
         return Progress::Rest(next);
     }
-    if !tries_again(last) {
+    if !tries_again(last, pauses) {
         return Progress::Failed;
     }
     Progress::Later
-}
-
-// What a stream counts as having answered once the pauses are used up: a failure.
-fn given_up() -> Answer
-    ensures { λ r. ⌜ r ≡ record { got = negsuc 0; error = pos 0 } ⌝ }
-{
-    Answer { got: -1, error: 0 }
 }
 
 fn read_once(chunk: &mut [u8]) -> Answer
@@ -111,76 +119,85 @@ fn write_once(bytes: &[u8], at: usize) -> Answer
     Answer { got, error }
 }
 
-// Where a read failed for good, a line on standard error says why: the error number is still that of the call.
-fn read_failed(answer: Answer) -> Answer
-    ensures { λ r. ⌜ r ≡ answer ⌝ }
+// Where a read failed for good, a line on standard error says why: the error number is still that of its last call.
+fn read_ended(last: Answer, pauses: u64) -> ReadOutcome
+    ensures { λ r. ⌜ r ≡ record { last = last; pauses = pauses; failed = failedCall (last .got) } ⌝ }
 {
-    os::fail(b"session: standard input");
-    answer
+    if failed(last) {
+        os::fail(b"session: standard input");
+        return ReadOutcome {
+            last,
+            pauses,
+            failed: true,
+        };
+    }
+    ReadOutcome {
+        last,
+        pauses,
+        failed: false,
+    }
 }
 
 // Reads once, as soon as there is something to read or the input has ended.
-pub fn read(chunk: &mut [u8]) -> Answer
+pub fn read(chunk: &mut [u8]) -> ReadOutcome
     ensures { λ r. ⌜ Settled (length (now (chunk .entry))) r ⌝ }
 {
-    let mut left = MOST_PAUSES;
-    while left > 0 {
-        let answer = read_once(chunk);
-        if !tries_again(answer) {
-            if failed(answer) {
-                return read_failed(answer);
-            }
-            return answer;
-        }
+    let mut last = read_once(chunk);
+    let mut pauses = 0;
+    while tries_again(last, pauses) {
         pause();
-        left -= 1;
+        pauses += 1;
+        last = read_once(chunk);
     }
-    read_failed(given_up())
+    read_ended(last, pauses)
 }
 
 // Where a write failed for good, a line on standard error says why: the error number is still that of its last call.
-fn write_failed(at: usize, last: Answer) -> Written
-    ensures { λ r. ⌜ r ≡ record { at = at; last = last; whole = false } ⌝ }
+fn write_failed(at: usize, last: Answer, pauses: u64) -> WriteOutcome
+    ensures { λ r. ⌜ r ≡ record { at = at; last = last; pauses = pauses; whole = false } ⌝ }
 {
     os::fail(b"session: standard output");
-    Written {
+    WriteOutcome {
         at,
         last,
+        pauses,
         whole: false,
     }
 }
 
 // Writes all bytes, in as many calls as it takes, the first of them on the whole. Of no bytes it makes no call.
-pub fn write(bytes: &[u8]) -> Written
+pub fn write(bytes: &[u8]) -> WriteOutcome
     ensures { λ r. ⌜ Stopped (length (now (bytes .entry))) r ⌝ }
 {
     let mut at = 0;
+    let mut pauses = 0;
     if bytes.len() == 0 {
-        return Written {
+        let last = Answer { got: 0, error: 0 };
+        return WriteOutcome {
             at,
-            last: Answer { got: 0, error: 0 },
+            last,
+            pauses,
             whole: true,
         };
     }
-    let mut left = MOST_PAUSES;
-    while left > 0 {
+    loop {
         let last = write_once(bytes, at);
-        let progress = after_write(bytes, at, last);
+        let progress = after_write(bytes, at, last, pauses);
         match progress {
             Progress::Done => {
-                return Written {
+                return WriteOutcome {
                     at,
                     last,
+                    pauses,
                     whole: true,
                 };
             }
             Progress::Rest(next) => at = next,
             Progress::Later => {
                 pause();
-                left -= 1;
+                pauses += 1;
             }
-            Progress::Failed => return write_failed(at, last),
+            Progress::Failed => return write_failed(at, last, pauses),
         }
     }
-    write_failed(at, given_up())
 }

@@ -1,36 +1,32 @@
 -- The tests in the order of the definition.
-use mathlib.Core.Path.{_≡_, sym, _∙_}
-use mathlib.Core.Bool.{true, false}
-use lib.Dec.{lit<}
-use borrow.Author.Tests.{eq-eqb, ne-eqb}
+use mathlib.Core.Path.{sym, _∙_}
+use mir.Facts.{toZ-ofZ}
 use borrow.Author.Needs.{needs}
-use Rattle.streams.specs.Streams.{triesAgain, transient, errorIs}
-use Rattle.streams.proofs.Answers.{error-is}
+use borrow.Author.Tests.{lt-ltb, le-ltb}
+use Rattle.streams.specs.Streams.{mostPauses, triesAgain}
 use Rattle.streams.proofs.tries_again.Statement.{statement}
 use Rattle.streams.proofs.tries_again.Tie as tie
+
+returns : tie.Need-returns
+unfolding triesAgain
+returns c = rw (le-ltb (c .before .args .pauses) mostPauses (c .if1 .taken))
 
 failed-requires : tie.Need-failed-requires
 failed-requires c κs = search needs
 
-returns : tie.Need-returns
-unfolding triesAgain transient
-returns c =
-    let error = c .before .before .before .before .before .args .answer .error in
-    let interrupted : errorIs 4 error ≡ true = sym (error-is 4 (lit< tt) error (c .before .struct-told .given .1 .0 .1)) ∙ eq-eqb _ 4 (c .if2 .taken) in
-    let negative = sym (c .before .before .before .before .failed .ensures) ∙ c .before .before .before .if1 .taken in
-    eq-eqb _ 4 (c .if2 .taken) ∙ rw (negative, interrupted)
+transient-requires : tie.Need-transient-requires
+transient-requires c κs = search needs
 
 returns-2 : tie.Need-returns-2
-unfolding triesAgain transient
+unfolding triesAgain
 returns-2 c =
-    let error = c .before .before .before .before .before .before .before .args .answer .error in
-    let other : errorIs 4 error ≡ false = sym (error-is 4 (lit< tt) error (c .struct-told2 .given .1 .0 .1)) ∙ ne-eqb _ 4 (c .before .before .if2 .left) in
-    let negative = sym (c .before .before .before .before .before .before .failed .ensures) ∙ c .before .before .before .before .before .if1 .taken in
-    error-is 11 (lit< tt) error (c .struct-told2 .given .1 .0 .1) ∙ rw (negative, other)
+    let negative = sym (c .before .before .before .failed .ensures) ∙ c .before .before .if2 .taken in
+    c .transient .ensures
+    ∙ rw (toZ-ofZ (record { sfits = c .before .struct-told .given .1 .0 .1 }), lt-ltb (c .before .before .before .before .before .args .pauses) mostPauses (c .before .before .before .before .if1 .left), negative)
 
 returns-3 : tie.Need-returns-3
 unfolding triesAgain
-returns-3 c = c .if1 .left ∙ rw (sym (c .before .failed .ensures) ∙ c .if1 .left)
+returns-3 c = c .if2 .left ∙ rw (lt-ltb (c .before .before .before .args .pauses) mostPauses (c .before .before .if1 .left), sym (c .before .failed .ensures) ∙ c .if2 .left)
 
 pub tries-again-spec : {M : Type 1} → statement M
-tries-again-spec = tie.close (tie.spec failed-requires returns returns-2 returns-3)
+tries-again-spec = tie.close (tie.spec returns failed-requires transient-requires returns-2 returns-3)

@@ -1,19 +1,21 @@
--- Each call moves the write further, or is followed by one pause fewer. It is never at its end before the call that brings it there.
-use mathlib.Core.Path.{refl, sym, _∙_}
+-- Each call brings the write further, or is followed by one more pause. It is never at its end before the call that brings it there.
+use mathlib.Core.Path.{sym, _∙_}
 use Prim.Native.Nat.{_+_, _-_, _<_, zero-le}
 use native.Mathlib.Omega.{arith}
 use lib.ListN.{length}
 use denote.Ref.{now}
 use borrow.Author.Needs.{needs}
-use Rattle.streams.proofs.Writes.{rest-left, nothing-done, given-up-failed}
+use Rattle.streams.specs.Streams.{mostPauses}
+use Rattle.streams.proofs.Answers.{pause-left}
+use Rattle.streams.proofs.Writes.{rest-left, later-again, nothing-done}
 use Rattle.streams.proofs.write.Statement.{statement}
 use Rattle.streams.proofs.write.Tie as tie
 
 abbrev Inv-loop : tie.InvT-loop
-Inv-loop bytes at₀ left₀ at left = at < length bytes
+Inv-loop bytes at₀ pauses₀ at pauses = at < length bytes
 
 abbrev μ-loop : tie.MeasureT-loop
-μ-loop bytes at₀ left₀ at left = length bytes - at + left
+μ-loop bytes at₀ pauses₀ at pauses = length bytes - at + (mostPauses - pauses)
 
 returns : tie.Need-returns Inv-loop μ-loop
 returns c = record { within = zero-le; moved = zero-le; final = nothing-done (length (now (c .before .before .args .bytes))) (c .if1 .taken) }
@@ -38,9 +40,9 @@ enum-known-progress c = search needs
 
 -- where the rest begins
 further : (c : tie.After-known-told Inv-loop μ-loop)
-    → (c .before .before .before .before .before .before .loop .at < c .before .progress .given .0 .0)
-    × (c .before .progress .given .0 .0 < length (now (c .before .before .before .before .before .before .before .before .before .args .bytes)))
-further c = rest-left _ _ _ _ _ (omega arith) (sym (c .before .before .before .after-write .ensures) ∙ c .before .progress .given .1)
+    → (c .before .before .before .before .before .loop .at < c .before .progress .given .0 .0)
+    × (c .before .progress .given .0 .0 < length (now (c .before .before .before .before .before .before .before .before .args .bytes)))
+further c = rest-left _ _ _ _ _ _ (omega arith) (sym (c .before .before .before .after-write .ensures) ∙ c .before .progress .given .1)
 
 loop-less : tie.Need-loop-less Inv-loop μ-loop
 loop-less c = omega (arith, further c)
@@ -51,14 +53,18 @@ loop-again c = further c .1
 enum-told-2 : tie.Need-enum-told-2 Inv-loop μ-loop
 enum-told-2 c = search needs
 
+-- before one more pause
+below : (c : tie.After-enum-told2 Inv-loop μ-loop) → c .before .before .before .before .loop .pauses < mostPauses
+below c = pause-left _ _ _ (later-again _ _ _ _ _ (sym (c .before .before .after-write .ensures) ∙ c .enum-told2 .given .1))
+
 pause-requires : tie.Need-pause-requires Inv-loop μ-loop
 pause-requires c κs = search needs
 
-sub-left : tie.Need-sub-left Inv-loop μ-loop
-sub-left c = search needs
+add-pauses : tie.Need-add-pauses Inv-loop μ-loop
+add-pauses c = omega (arith, below (c .before))
 
 loop-less-2 : tie.Need-loop-less-2 Inv-loop μ-loop
-loop-less-2 c = search needs
+loop-less-2 c = omega (arith, below (c .before))
 
 loop-again-2 : tie.Need-loop-again-2 Inv-loop μ-loop
 loop-again-2 c = search needs
@@ -72,18 +78,11 @@ write-failed-requires c κs = search needs
 returns-3 : tie.Need-returns-3 Inv-loop μ-loop
 returns-3 c =
     rw (c .write-failed .ensures)
-    (record { within = search needs; moved = c .before .before .before .before .write-once .ensures; final = sym (c .before .before .before .after-write .ensures) ∙ c .before .enum-told3 .given .1 })
-
-given-up-requires : tie.Need-given-up-requires Inv-loop μ-loop
-given-up-requires c κs = search needs
-
-write-failed-requires-2 : tie.Need-write-failed-requires-2 Inv-loop μ-loop
-write-failed-requires-2 c κs = search needs
-
-returns-4 : tie.Need-returns-4 Inv-loop μ-loop
-returns-4 c =
-    rw (c .write-failed2 .ensures, c .before .given-up .ensures)
-    (record { within = search needs; moved = refl; final = given-up-failed _ _ (c .before .before .before .loop .inv) })
+    (record {
+      within = search needs;
+      moved = c .before .before .before .before .write-once .ensures;
+      final = sym (c .before .before .before .after-write .ensures) ∙ c .before .enum-told3 .given .1;
+    })
 
 pub write-spec : {M : Type 1} → statement M
 write-spec =
@@ -102,12 +101,9 @@ write-spec =
     loop-again
     enum-told-2
     pause-requires
-    sub-left
+    add-pauses
     loop-less-2
     loop-again-2
     enum-told-3
     write-failed-requires
-    returns-3
-    given-up-requires
-    write-failed-requires-2
-    returns-4)
+    returns-3)
