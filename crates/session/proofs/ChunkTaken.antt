@@ -17,7 +17,7 @@ use Rattle.framing.proofs.Clipped.{pending-joined}
 use Rattle.framing.proofs.LinesCut.{first-line, no-line-yet}
 use Rattle.session.specs.declared.Session.{Session}
 use Rattle.session.specs.declared.Reading.{Reading}
-use Rattle.session.specs.Session.{asText, Progress, begun, answerTo, withResponse, withLine, withLines, sessionOf}
+use Rattle.transcript.specs.Session.{asText, Progress, begun, answerTo, withResponse, withLine, withLines, sessionOf}
 use Rattle.session.specs.Saying.{saidTo, saidToAll, buffered, allSaidInto}
 use Rattle.session.specs.Program.{At, Follows}
 use Rattle.session.specs.Turns.{FollowsOn}

@@ -1,10 +1,6 @@
 pub mod WhatWaits
-pub mod LaterLines
 pub mod ListingSaid
-pub mod AnswerBytes
 pub mod LineTaken
 pub mod KeptLines
 pub mod ChunkTaken
 pub mod TurnsTaken
-pub mod Worked
-pub mod SessionSound

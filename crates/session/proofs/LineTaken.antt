@@ -14,11 +14,12 @@ use Rattle.engine.proofs.Outcomes.{bytes-given}
 use Rattle.engine.proofs.States.{listed-held}
 use Rattle.session.specs.declared.Waiting.{Waiting}
 use Rattle.session.specs.declared.Session.{Session}
-use Rattle.session.specs.Session.{asText, laterLines, Progress, answerTo, withResponse, withLine}
+use Rattle.transcript.specs.Session.{asText, laterLines, Progress, answerTo, withResponse, withLine}
 use Rattle.session.specs.Saying.{saidTo, buffered, allSaidInto}
 use Rattle.session.specs.Program.{Waits, At}
-use Rattle.session.proofs.WhatWaits.{asText-append, into-append}
-use Rattle.session.proofs.AnswerBytes.{unanswered, has-bytes}
+use Rattle.transcript.proofs.Texts.{asText-append}
+use Rattle.session.proofs.WhatWaits.{into-append}
+use Rattle.transcript.proofs.AnswerBytes.{unanswered, has-bytes}
 use Rattle.session.proofs.ListingSaid.{SaidThere, PutThere}
 
 module _ (p : Progress) (s : Session) (history out line : List ℕ) (at : At p s history out) {r : Reply} {h' answer answer' : List ℕ}

@@ -14,11 +14,12 @@ use Rattle.engine.specs.Engine.{Engine}
 use Rattle.engine.specs.Calls.{Holds, fetchedBytes, FetchAnswered}
 use Rattle.engine.proofs.Outcomes.{bytes-fetched}
 use Rattle.session.specs.declared.Waiting.{Waiting}
-use Rattle.session.specs.Session.{asText, laterLines}
+use Rattle.transcript.specs.Session.{asText, laterLines}
 use Rattle.session.specs.Program.{Waits}
 use Rattle.session.specs.Saying.{buffered, saidInto, allSaidInto}
-use Rattle.session.proofs.WhatWaits.{asText-append, into-append}
-use Rattle.session.proofs.LaterLines.{line-fetched, later-some}
+use Rattle.transcript.proofs.Texts.{asText-append}
+use Rattle.session.proofs.WhatWaits.{into-append}
+use Rattle.transcript.proofs.LaterLines.{line-fetched, later-some}
 
 -- What `say` promises.
 abbrev pub SaidThere : List ℕ → Waiting → List ℕ → List ℕ → Waiting → Type 0

@@ -14,7 +14,7 @@ use Rattle.framing.specs.Lines.{linesOf}
 use Rattle.session.specs.declared.Waiting.{Waiting}
 use Rattle.session.specs.declared.Session.{Session}
 use Rattle.session.specs.declared.Reading.{Reading}
-use Rattle.session.specs.Session.{Progress, begun, withLines, sessionOf}
+use Rattle.transcript.specs.Session.{Progress, begun, withLines, sessionOf}
 use Rattle.session.specs.Turns.{delivered, FollowsOn, LastSaid, Received, Flushed, Turned, firstReading}
 use Rattle.session.specs.Program.{At, Follows, EachSome, Ran}
 use Rattle.session.specs.Saying.{buffered}

@@ -10,14 +10,9 @@ use borrow.Author.Tests.{ltb-true, lt-ltb}
 use Rattle.framing.specs.Framing.{fitting, placed, lineFits, LinePut}
 use Rattle.framing.proofs.Places.{fits-whole}
 use Rattle.session.specs.declared.Waiting.{Waiting}
-use Rattle.session.specs.Session.{asText}
+use Rattle.transcript.specs.Session.{asText}
 use Rattle.session.specs.Program.{Waits}
 use Rattle.session.specs.Saying.{Buffer, saidInto, allSaidInto}
-
-pub asText-append : (a b : List (List ℕ)) → asText (a ++ b) ≡ asText a ++ asText b
-unfolding asText
-asText-append [] b = refl
-asText-append (l ∷ ls) b = rw (asText-append ls b) (sym (append-assoc l (10 ∷ asText ls) (asText b)))
 
 -- Nothing waits once it is written.
 pub waits-nothing : {said out : List ℕ} {w : Waiting} (v : Waiting) → Waits said out w → v .len ≡ 0 → Waits said out v

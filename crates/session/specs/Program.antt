@@ -12,7 +12,7 @@ use Rattle.framing.specs.Framing.{pendingOf}
 use Rattle.session.specs.declared.Waiting.{Waiting}
 use Rattle.session.specs.declared.Session.{Session}
 use Rattle.session.specs.declared.Reading.{Reading}
-use Rattle.session.specs.Session.{Progress, begun, withLines, sessionOf}
+use Rattle.transcript.specs.Session.{Progress, begun, withLines, sessionOf}
 
 -- ---- where a session stands
 

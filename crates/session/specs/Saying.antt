@@ -6,7 +6,7 @@ use lib.ListN.{length}
 use Rattle.engine.specs.Calls.{response}
 use Rattle.framing.specs.Framing.{placed, lineFits}
 use Rattle.session.specs.declared.Waiting.{Waiting}
-use Rattle.session.specs.Session.{Progress, answerTo, withLine}
+use Rattle.transcript.specs.Session.{Progress, answerTo, withLine}
 
 -- The lines that are said to a line, and to lines one after the other.
 unfoldable pub saidTo : Progress → List ℕ → List (List ℕ)

@@ -11,7 +11,7 @@ use Rattle.engine.specs.Calls.{encode}
 use Rattle.framing.specs.Framing.{pendingOf}
 use Rattle.session.specs.declared.Waiting.{Waiting}
 use Rattle.session.specs.declared.Reading.{Reading}
-use Rattle.session.specs.Session.{begun, withLines, sessionOf}
+use Rattle.transcript.specs.Session.{begun, withLines, sessionOf}
 use Rattle.session.specs.Saying.{saidTo, saidToAll, Buffer, buffered, allSaidInto}
 use Rattle.session.specs.Program.{At, Follows, mostReads}
 

@@ -8,7 +8,7 @@ ghost use lib.ListN.{length, replicate};
 ghost use Rattle.engine.specs.Engine.{Engine};
 ghost use Rattle.engine.specs.Calls.{Holds};
 ghost use Rattle.framing.specs.Framing.{pendingOf};
-ghost use Rattle.session.specs.Session.{asText, laterLines, Progress, withLine, sessionOf};
+ghost use Rattle.transcript.specs.Session.{asText, laterLines, Progress, withLine, sessionOf};
 ghost use Rattle.session.specs.Saying.{saidTo, buffered, saidInto, allSaidInto};
 ghost use Rattle.session.specs.Turns.{FailureKept, FollowsOn, LastSaid, Received, Flushed, Turned, firstReading};
 ghost use Rattle.session.specs.Program.{Waits, At, Follows, Ran};

@@ -5,7 +5,7 @@ use mathlib.Core.Path.{_≡_, refl}
 use lib.ListN.{length}
 use Rattle.session.specs.Turns.{FailureKept}
 use Rattle.session.proofs.WhatWaits.{nothing-into}
-use Rattle.session.proofs.LaterLines.{later-few}
+use Rattle.transcript.proofs.LaterLines.{later-few}
 use Rattle.session.proofs.ListingSaid.{Listed, ListedInto, none-listed, all-listed, past-listed, one-listed, all-into, one-into}
 use borrow.Author.Needs.{needs}
 use Rattle.session.proofs.list.Statement.{statement}

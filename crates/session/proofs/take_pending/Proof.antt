@@ -1,6 +1,6 @@
 -- A line of which 1,025 bytes are kept is taken as the whole line is.
 use mathlib.Core.Path.{ap, _∙_}
-use Rattle.session.specs.Session.{withLine}
+use Rattle.transcript.specs.Session.{withLine}
 use Rattle.session.specs.Saying.{saidTo}
 use Rattle.session.proofs.KeptLines.{kept-taken, kept-said}
 use borrow.Author.Needs.{needs}

@@ -9,7 +9,7 @@ use lib.ListN.{length, replicate}
 use Rattle.engine.specs.Engine.{freshEngine}
 use Rattle.runs.specs.Runs.{Call, line, fetch, GivenFrom, answerOf, shownBy, SoundRun}
 use Rattle.framing.specs.Lines.{linesOf}
-use Rattle.session.specs.Session.{asText, sessionOf}
+use Rattle.transcript.specs.Session.{asText, sessionOf}
 
 -- The lines that the engine is given.
 unfoldable pub givenLines : List Call → List (List ℕ)

@@ -9,7 +9,7 @@ use Rattle.engine.specs.Engine.{Engine}
 use Rattle.engine.specs.Calls.{encode, Response, response, fetchedBytes}
 use Rattle.runs.specs.Runs.{LineCall, FetchCall, Call, line, fetch}
 use Rattle.framing.specs.Lines.{linesOf}
-use Rattle.session.specs.Session.{laterLines, Progress, begun, withLine}
+use Rattle.transcript.specs.Session.{laterLines, Progress, begun, withLine}
 
 -- The answer buffer that is lent.
 unfoldable pub lent : List ℕ

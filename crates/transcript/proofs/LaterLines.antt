@@ -15,7 +15,7 @@ use Rattle.text.specs.Spelling.{spelledGate}
 use Rattle.answers.specs.Answers.{bytesOf}
 use Rattle.engine.specs.Engine.{Engine}
 use Rattle.engine.specs.Calls.{entryBytes, lineNumbered, laterLine, fetchedBytes}
-use Rattle.session.specs.Session.{laterLines}
+use Rattle.transcript.specs.Session.{laterLines}
 
 -- ---- by number
 

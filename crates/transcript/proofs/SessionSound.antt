@@ -14,12 +14,12 @@ use Rattle.engine.specs.Calls.{Response, response, fetchedBytes}
 use Rattle.runs.specs.Runs.{Call, line, fetch, GivenFrom, answerOf, shownBy}
 use Rattle.runs.proofs.Runs.{given-sound}
 use Rattle.framing.specs.Lines.{linesOf}
-use Rattle.session.specs.Session.{asText, laterLines, Progress, begun, answerTo, withResponse, withLine, withLines, sessionOf}
-use Rattle.session.specs.SessionCalls.{lent, lineCallBy, lineCall, fetchCall, fetchCalls, fetchesAfter, callsTo, callsFrom, callsOf}
-use Rattle.session.specs.SoundSession.{givenLines, shownText, saidBy, SoundSession}
-use Rattle.session.proofs.WhatWaits.{asText-append}
-use Rattle.session.proofs.LaterLines.{line-fetched, later-some}
-use Rattle.session.proofs.AnswerBytes.{skipped-silent, answer-some}
+use Rattle.transcript.specs.Session.{asText, laterLines, Progress, begun, answerTo, withResponse, withLine, withLines, sessionOf}
+use Rattle.transcript.specs.SessionCalls.{lent, lineCallBy, lineCall, fetchCall, fetchCalls, fetchesAfter, callsTo, callsFrom, callsOf}
+use Rattle.transcript.specs.SoundSession.{givenLines, shownText, saidBy, SoundSession}
+use Rattle.transcript.proofs.Texts.{asText-append}
+use Rattle.transcript.proofs.LaterLines.{line-fetched, later-some}
+use Rattle.transcript.proofs.AnswerBytes.{skipped-silent, answer-some}
 
 -- ---- they are a run
 

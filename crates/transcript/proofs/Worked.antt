@@ -24,8 +24,8 @@ use Rattle.engine.specs.Engine.{freshEngine}
 use Rattle.engine.specs.Calls.{asksTerms, answering, tooShort, skipped, response}
 use Rattle.framing.specs.Lines.{linesAfter, linesOf}
 use Rattle.framing.specs.Framing.{clipped, pendingOf}
-use Rattle.session.specs.Session.{asText, laterLines, begun, answerTo, withResponse, withLine, withLines, sessionOf}
-use Rattle.session.specs.Worked.{typedLines, answerLines}
+use Rattle.transcript.specs.Session.{asText, laterLines, begun, answerTo, withResponse, withLine, withLines, sessionOf}
+use Rattle.transcript.specs.Worked.{typedLines, answerLines}
 
 pub worked-session : sessionOf (asText typedLines) .said ≡ asText answerLines
 unfolding _⊕_ _⊞_ dot bit zeros sum sumBelow parity sgn bitOf odd highFirst the first second join put isPosition at isGate areGates term sameTerm empty toggled substituted pair applied appliedAll polynomial product parityAll value overPositions triples pairsBeside everyTerm among listing gateOfTerm gatesOf withStart along coefficient gamma innerSum isNought amplitudeAfter share tallyBelow readoutAfter readoutCount sameBytes digits decimal signedDecimal bitDigits spelledSpot spelledGate begins valueFrom afterDigits frontBits afterBits colourOf spotOf cczOf czOf cnotOf gateOf stringsOf row spelledGates spelledBits spelled someBits allSome isAllowed allAllowed colourTwice anyColourTwice gatesIn gatesAfter typedOf shapeAs readingOf bytesOf infront orElse refusedIf classNumber isClass works momentRefusal within inRange allInRange onItself anyOnItself outOfRange anyNotLong operandRefusal places undoesMore historyRefusal rowRefusal refusalBy allZeros newCircuit withGates withoutLast withNewStart stored isRunning totalAfter ended opening stepped stepAnswer freshEngine accepted refusalOf turnBy turnOf asksTerms answering tooShort skipped response linesAfter linesOf clipped pendingOf asText laterLines begun answerTo withResponse withLine withLines sessionOf typedLines answerLines
