@@ -23,7 +23,7 @@ use Rattle.lines.specs.Readings.{readingOf}
 use Rattle.lines.proofs.Readings.{form-read}
 use Rattle.answers.specs.declared.Answer.the-variants as Answer
 use Rattle.answers.specs.Answers.{bytesOf}
-use Rattle.refusals.specs.Refusals.{orElse, refusedIf, classNumber, isClass, works, momentRefusal, within, allInRange, anyOnItself, outOfRange, anyNotLong, operandRefusal, places, undoesMore, historyRefusal, rowRefusal, refusalBy}
+use Rattle.refusals.specs.Refusals.{classNumber, isClass}
 use Rattle.engine.specs.declared.Reply.{Reply}
 use Rattle.turns.specs.Turns.{accepted, refusalOf, turnBy, turnOf}
 use Rattle.engine.specs.Engine.{Engine}

@@ -1,11 +1,10 @@
 -- A circuit's state after one gate more, and after its last gate is taken back.
 use mathlib.Core.Path.{_≡_, refl, ap, sym, _∙_}
-use mathlib.Core.Bool.{Bool, true, false, cond, _&&_}
+use mathlib.Core.Bool.{Bool, true, false, _&&_}
 use mathlib.Core.List.{List, [], _∷_, _++_}
 use Prim.Native.Nat.{ℕ, _+_, _-_, _≤_, _<_, min}
 use native.Mathlib.Omega.{arith}
-use lib.Dec.{ltb}
-use lib.ListN.{length, getD, take, set, length-append, length-take}
+use lib.ListN.{length, getD, take, set, length-append}
 use lib.Seq.{take-all, take-take, length-take-le}
 use borrow.Author.Tests.{lt-ltb, le-ltb}
 use Rattle.circuit.specs.declared.Gate.{Gate}
@@ -17,7 +16,7 @@ use Rattle.circuit.proofs.Undo.{applied-append, taken-back}
 use Rattle.circuit.proofs.HistoryCodes.{gateOf-codeOf}
 use Rattle.held.specs.declared.Held.{Held}
 use Rattle.held.specs.Circuit.{Circuit, withGates, withoutLast}
-use Rattle.held.specs.Memory.{encodeCircuit, stored, Stored, hasRoom, withGate, withCode}
+use Rattle.held.specs.Memory.{encodeCircuit, Stored, hasRoom, withGate, withCode}
 use Rattle.held.proofs.GateHistory.{stored-one, codes-within, last-code}
 use Rattle.held.proofs.GateLists.{noGate, gate-at, last-gate}
 

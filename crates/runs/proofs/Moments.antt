@@ -10,7 +10,7 @@ use Rattle.engine.specs.declared.State.{State}
 use Rattle.held.specs.Circuit.{Circuit}
 use Rattle.sums.specs.Sums.{Opened}
 use Rattle.engine.specs.Engine.{Engine, freshEngine}
-use Rattle.engine.specs.Calls.{encode, Holds, response, Given}
+use Rattle.engine.specs.Calls.{encode, Holds, response}
 use Rattle.engine.proofs.Keeping.{fresh-held, held-on}
 use Rattle.engine.proofs.Outcomes.{Outcome, silent, spoken, outcome, bytes-given, Shown, shown, bytes-fetched}
 use Rattle.runs.specs.Runs.{LineCall, FetchCall, Call, line, fetch, Kept, Run, GivenFrom, answerOf, shownBy, isOk, isLeft, Log, emptyLog, logged, logFrom, logOf}

@@ -1,7 +1,7 @@
 -- The theorem about runs: every list of calls that keep their promises, from a fresh engine on any history, is sound.
-use mathlib.Core.Path.{_≡_, refl, ap, sym, _∙_, subst}
+use mathlib.Core.Path.{_≡_, ap, sym, _∙_, subst}
 use mathlib.Core.List.{List, _∷_, _++_}
-use Prim.Native.Nat.{ℕ, _≤_}
+use Prim.Native.Nat.{ℕ}
 use lib.IntN.{ℤ}
 use Rattle.gf2.specs.Strings.{BitString}
 use Rattle.gf2.proofs.Impossible.{never}

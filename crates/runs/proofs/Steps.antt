@@ -20,7 +20,7 @@ use Rattle.answers.specs.declared.Answer.the-variants as Answer
 use Rattle.answers.specs.Answers.{bytesOf}
 use Rattle.held.specs.Circuit.{Circuit}
 use Rattle.sums.specs.Sums.{OpenSum, Opened, running, isRunning, totalAfter, ended}
-use Rattle.turns.proofs.Views.{one, View, refuses, creates, adds, takesBack, starts, opensSum, worksOn, finishes, drops, lists}
+use Rattle.turns.proofs.Views.{View, refuses, creates, adds, takesBack, starts, opensSum, worksOn, finishes, drops, lists}
 use Rattle.turns.proofs.Passing.{or-none}
 use Rattle.engine.proofs.Outcomes.{Outcome, silent, spoken}
 use Rattle.runs.specs.Runs.{LineCall, FetchCall, Call, line, fetch, answerOf, isOk, isLeft, isAccepted, stepsOf, isDropped, stepsIn, dropsIn, Log, logged, IsReadout}

@@ -1,7 +1,7 @@
 -- A sum is opened: its table is that of the polynomial with the output string, the start's ones added, and no slice is worked yet.
-use mathlib.Core.Path.{_≡_, refl, ap, ap₂, sym, _∙_}
+use mathlib.Core.Path.{_≡_, ap, sym, _∙_}
 use mathlib.Core.Bool.{cond}
-use mathlib.Core.List.{List, []}
+use mathlib.Core.List.{List}
 use Prim.Native.Nat.{ℕ}
 use lib.Bits.{bitXor}
 use lib.Dec.{leb}
@@ -22,13 +22,11 @@ use Rattle.slices.specs.Packing.{withOutput, tableOf}
 use Rattle.slices.specs.Totals.{strings, withStart, amplitudeAfter, tallyBelow, readoutAfter}
 use Rattle.held.specs.declared.Held.{Held}
 use Rattle.held.specs.Circuit.{Circuit}
-use Rattle.held.specs.Memory.{numbersOf, encodeCircuit, Long, SoundCircuit}
+use Rattle.held.specs.Memory.{numbersOf, encodeCircuit, SoundCircuit}
 use Rattle.lines.specs.Typed.{Asked, amp, part}
-use Rattle.sums.specs.declared.Total.{Total}
 use Rattle.sums.specs.declared.Total.the-variants.{Amplitude, Readout}
-use Rattle.sums.specs.declared.Sum.{Sum}
 use Rattle.sums.specs.Tables.{sliced, output, tableFor}
-use Rattle.sums.specs.Sums.{running, totalAfter, encodeSum, opening}
+use Rattle.sums.specs.Sums.{totalAfter, encodeSum, opening}
 
 -- The strings of three numbers.
 abbrev pub digitsOf : ℕ → ℕ → ℕ → ℕ → Basis

@@ -1,7 +1,6 @@
 -- A step of an open sum: k more slices and L left, or all that are left and the sum's end.
 use mathlib.Core.Path.{_≡_, refl, ap, sym, subst, _∙_}
 use mathlib.Core.Bool.{Bool, true, false, cond}
-use mathlib.Core.List.{List}
 use Prim.Native.Nat.{ℕ, _+_, _-_, _^_, _≤_, _<_}
 use native.Mathlib.Omega.{arith}
 use lib.Dec.{leb, ltb}
@@ -10,12 +9,11 @@ use borrow.Author.Tests.{lt-ltb, le-ltb, le-leb, leb-true}
 use Rattle.answers.specs.declared.Answer.{Answer}
 use Rattle.answers.specs.declared.Answer.the-variants as Answer
 use Rattle.held.specs.Circuit.{Circuit}
-use Rattle.held.specs.Memory.{SoundCircuit}
 use Rattle.lines.specs.Typed.{Asked}
 use Rattle.sums.specs.declared.Total.{Total}
 use Rattle.sums.specs.declared.Sum.{Sum}
 use Rattle.sums.specs.Tables.{tableFor}
-use Rattle.sums.specs.Sums.{OpenSum, Opened, closed, running, totalAfter, encodeSum, ended, stepped, stepAnswer}
+use Rattle.sums.specs.Sums.{OpenSum, closed, running, totalAfter, encodeSum, ended, stepped, stepAnswer}
 use Rattle.sums.specs.Soundness.{SoundSum}
 
 -- Only an m of at most 16 has slices, and it has at most 2^16.

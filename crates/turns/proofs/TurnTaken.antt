@@ -9,7 +9,6 @@ use lib.Dec.{eqb}
 use lib.ListN.{length}
 use Rattle.gf2.specs.Strings.{BitString}
 use Rattle.gf2.specs.Digits.{highFirst}
-use Rattle.gf2.specs.Words.{numberOfBits}
 use Rattle.gf2.proofs.BitNumbers.{long-back}
 use Rattle.circuit.specs.declared.Colour.{Colour}
 use Rattle.circuit.specs.declared.Spot.{Spot}
@@ -26,7 +25,7 @@ use Rattle.text.specs.Reading.{capped, heldBits}
 use Rattle.text.proofs.BitNumbers.{held-exactly}
 use Rattle.lines.specs.declared.Form.{Form}
 use Rattle.lines.specs.declared.Form.the-variants as Form
-use Rattle.lines.specs.Typed.{amp, part, Typed, circuit, gate, layer, undo, start, opens, step, drop, terms, stringsOf, row}
+use Rattle.lines.specs.Typed.{amp, part, Typed, circuit, undo, start, opens, step, drop, terms, stringsOf, row}
 use Rattle.lines.specs.Spelling.{typed}
 use Rattle.lines.specs.Readings.{readingOf}
 use Rattle.lines.specs.Held.{heldGate, held, heldReading}

@@ -17,7 +17,6 @@ use Rattle.circuit.specs.Colours.{join}
 use Rattle.circuit.specs.Sum.{areGates}
 use Rattle.held.specs.Circuit.{Circuit, newCircuit, withGates, withoutLast, withNewStart}
 use Rattle.held.specs.Memory.{Long}
-use Rattle.lines.specs.declared.Class.the-variants as Class
 use Rattle.lines.specs.Typed.{Asked, amp, part, Typed, circuit, gate, layer, undo, start, opens, step, drop, terms, stringsOf, row}
 use Rattle.lines.specs.Spelling.{Reading, typed, refused}
 use Rattle.lines.specs.Readings.{readingOf}
@@ -27,7 +26,7 @@ use Rattle.answers.specs.declared.Answer.the-variants as Answer
 use Rattle.refusals.specs.Refusals.{classNumber, isClass, works, within, places, anyNotLong, refusalBy}
 use Rattle.sums.specs.Tables.{output}
 use Rattle.sums.specs.Sums.{OpenSum, Opened, closed, running, isRunning, totalAfter, ended, opening, stepped, stepAnswer}
-use Rattle.turns.specs.Turns.{Turn, gives, accepted, refusalOf, turnBy, turnOf}
+use Rattle.turns.specs.Turns.{Turn, accepted, refusalOf, turnBy, turnOf}
 use Rattle.turns.proofs.Passing.{or-none, Passes, passes}
 use Rattle.turns.proofs.HeldGates.{gates-by-tests}
 

@@ -224,9 +224,10 @@ fn drop_turn(circuit: Held, sum: Sum, form: Form) -> Turn
     let Form::Drop = form else {
         return turned_back(circuit, sum, form);
     };
+    let closed = sums::none();
     Turn {
         circuit,
-        sum: sums::none(),
+        sum: closed,
         answer: Answer::Ok,
     }
 }

@@ -1,5 +1,4 @@
 -- Every field is that of no sum.
-use borrow.Author.Needs.{needs}
 use mathlib.Core.Path.{refl}
 use Rattle.sums.specs.Sums.{encodeSum}
 use Rattle.sums.proofs.none.Statement.{statement}
