@@ -15,13 +15,14 @@ use Rattle.framing.specs.Lines.{linesAfter, linesOf}
 use Rattle.framing.specs.Framing.{upToFeed, hasFeed, pendingOf, scanned}
 use Rattle.framing.proofs.Clipped.{pending-joined}
 use Rattle.framing.proofs.LinesCut.{first-line, no-line-yet}
-use Rattle.session.specs.declared.Session.{Session}
+use Rattle.saying.specs.declared.Session.{Session}
 use Rattle.session.specs.declared.Reading.{Reading}
 use Rattle.transcript.specs.Session.{asText, Progress, begun, answerTo, withResponse, withLine, withLines, sessionOf}
-use Rattle.session.specs.Saying.{saidTo, saidToAll, buffered, allSaidInto}
-use Rattle.session.specs.Program.{At, Follows}
+use Rattle.saying.specs.Saying.{saidTo, saidToAll, buffered, allSaidInto}
+use Rattle.saying.specs.Standing.{At}
+use Rattle.session.specs.Program.{Follows}
 use Rattle.session.specs.Turns.{FollowsOn}
-use Rattle.session.proofs.WhatWaits.{into-append}
+use Rattle.saying.proofs.WhatWaits.{into-append}
 
 -- ---- lines in turn
 

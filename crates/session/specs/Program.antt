@@ -5,30 +5,12 @@ use mathlib.Core.Bool.{true, false}
 use mathlib.Core.List.{List, [], _∷_, _++_, flatten}
 use mathlib.Core.Path.{_≡_}
 use Prim.Native.Nat.{ℕ, _+_, _-_, _^_, _≤_}
-use lib.ListN.{length, take}
-use Rattle.engine.specs.Calls.{Holds}
+use lib.ListN.{length}
 use Rattle.framing.specs.Lines.{linesAfter, linesOf}
 use Rattle.framing.specs.Framing.{pendingOf}
-use Rattle.session.specs.declared.Waiting.{Waiting}
-use Rattle.session.specs.declared.Session.{Session}
 use Rattle.session.specs.declared.Reading.{Reading}
-use Rattle.transcript.specs.Session.{Progress, begun, withLines, sessionOf}
-
--- ---- where a session stands
-
--- What waits in the output buffer is the end of what was said. That the part before it was written is not said here: a buffer in which nothing
--- waits fits any text. What is put into the buffer is an equation, `allSaidInto`; in the code only `flush` empties it, and `flush` writes.
-pub record Waits (said out : List ℕ) (w : Waiting) : Type 0 where
-  pub written : List ℕ
-  pub fits : w .len ≤ length out
-  pub is : written ++ take (w .len) out ≡ said
-
--- The state, the history and the output buffer at some point of a session.
-pub record At (p : Progress) (s : Session) (history out : List ℕ) : Type 0 where
-  pub held : Holds (p .engine) (s .state) history
-  pub history-is : history ≡ p .history
-  pub size : length out ≡ 4096
-  pub waits : Waits (p .said) out (s .waiting)
+use Rattle.transcript.specs.Session.{begun, withLines, sessionOf}
+use Rattle.saying.specs.Standing.{At}
 
 -- After some bytes of the input: the lines that a line feed has ended went to the engine, and the bytes behind them are kept.
 pub record Follows (input : List ℕ) (r : Reading) (history out : List ℕ) : Type 0 where

@@ -9,15 +9,12 @@ use Rattle.io.specs.Counts.{clamped}
 use Rattle.engine.specs.Engine.{freshEngine}
 use Rattle.engine.specs.Calls.{encode}
 use Rattle.framing.specs.Framing.{pendingOf}
-use Rattle.session.specs.declared.Waiting.{Waiting}
+use Rattle.saying.specs.declared.Waiting.{Waiting}
 use Rattle.session.specs.declared.Reading.{Reading}
 use Rattle.transcript.specs.Session.{begun, withLines, sessionOf}
-use Rattle.session.specs.Saying.{saidTo, saidToAll, Buffer, buffered, allSaidInto}
-use Rattle.session.specs.Program.{At, Follows, mostReads}
-
--- A write that failed is not forgotten.
-abbrev pub FailureKept : Waiting → Waiting → Type 0
-FailureKept w w' = w .sound ≡ false → w' .sound ≡ false
+use Rattle.saying.specs.Saying.{saidTo, saidToAll, Buffer, buffered, allSaidInto}
+use Rattle.saying.specs.Standing.{At}
+use Rattle.session.specs.Program.{Follows, mostReads}
 
 -- Before the first turn: a fresh engine, nothing read, nothing said.
 unfoldable pub firstReading : Reading

@@ -9,10 +9,10 @@ use lib.Seq.{take-paste, length-paste, take-length}
 use borrow.Author.Tests.{ltb-true, lt-ltb}
 use Rattle.framing.specs.Framing.{fitting, placed, lineFits, LinePut}
 use Rattle.framing.proofs.Places.{fits-whole}
-use Rattle.session.specs.declared.Waiting.{Waiting}
+use Rattle.saying.specs.declared.Waiting.{Waiting}
 use Rattle.transcript.specs.Session.{asText}
-use Rattle.session.specs.Program.{Waits}
-use Rattle.session.specs.Saying.{Buffer, saidInto, allSaidInto}
+use Rattle.saying.specs.Standing.{Waits}
+use Rattle.saying.specs.Saying.{Buffer, saidInto, allSaidInto}
 
 -- Nothing waits once it is written.
 pub waits-nothing : {said out : List ℕ} {w : Waiting} (v : Waiting) → Waits said out w → v .len ≡ 0 → Waits said out v

@@ -3,9 +3,9 @@ use mathlib.Core.Path.{sym, ap, _∙_}
 use mathlib.Core.Bool.{true≢false}
 use borrow.Author.Tests.{not-false}
 use borrow.Author.Needs.{needs}
-use Rattle.session.specs.declared.Waiting.{Waiting}
-use Rattle.session.proofs.flush.Statement.{statement}
-use Rattle.session.proofs.flush.Tie as tie
+use Rattle.saying.specs.declared.Waiting.{Waiting}
+use Rattle.saying.proofs.flush.Statement.{statement}
+use Rattle.saying.proofs.flush.Tie as tie
 
 emptied-requires : tie.Need-emptied-requires
 emptied-requires c κs = search needs

@@ -12,15 +12,15 @@ use Rattle.engine.specs.Calls.{Holds, Response, skipped, response, Given, Answe
 use Rattle.engine.proofs.Keeping.{held-on}
 use Rattle.engine.proofs.Outcomes.{bytes-given}
 use Rattle.engine.proofs.States.{listed-held}
-use Rattle.session.specs.declared.Waiting.{Waiting}
-use Rattle.session.specs.declared.Session.{Session}
+use Rattle.saying.specs.declared.Waiting.{Waiting}
+use Rattle.saying.specs.declared.Session.{Session}
 use Rattle.transcript.specs.Session.{asText, laterLines, Progress, answerTo, withResponse, withLine}
-use Rattle.session.specs.Saying.{saidTo, buffered, allSaidInto}
-use Rattle.session.specs.Program.{Waits, At}
+use Rattle.saying.specs.Saying.{saidTo, buffered, allSaidInto}
+use Rattle.saying.specs.Standing.{Waits, At}
 use Rattle.transcript.proofs.Texts.{asText-append}
-use Rattle.session.proofs.WhatWaits.{into-append}
+use Rattle.saying.proofs.WhatWaits.{into-append}
 use Rattle.transcript.proofs.AnswerBytes.{unanswered, has-bytes}
-use Rattle.session.proofs.ListingSaid.{SaidThere, PutThere}
+use Rattle.saying.proofs.ListingSaid.{SaidThere, PutThere}
 
 module _ (p : Progress) (s : Session) (history out line : List ℕ) (at : At p s history out) {r : Reply} {h' answer answer' : List ℕ}
     (got : Answered (s .state) history line answer r h' answer') (size : length answer ≡ 64) (size' : length answer' ≡ 64) where

@@ -13,12 +13,12 @@ use Rattle.engine.specs.declared.Fetched.{Fetched}
 use Rattle.engine.specs.Engine.{Engine}
 use Rattle.engine.specs.Calls.{Holds, fetchedBytes, FetchAnswered}
 use Rattle.engine.proofs.Outcomes.{bytes-fetched}
-use Rattle.session.specs.declared.Waiting.{Waiting}
+use Rattle.saying.specs.declared.Waiting.{Waiting}
 use Rattle.transcript.specs.Session.{asText, laterLines}
-use Rattle.session.specs.Program.{Waits}
-use Rattle.session.specs.Saying.{buffered, saidInto, allSaidInto}
+use Rattle.saying.specs.Standing.{Waits}
+use Rattle.saying.specs.Saying.{buffered, saidInto, allSaidInto}
 use Rattle.transcript.proofs.Texts.{asText-append}
-use Rattle.session.proofs.WhatWaits.{into-append}
+use Rattle.saying.proofs.WhatWaits.{into-append}
 use Rattle.transcript.proofs.LaterLines.{line-fetched, later-some}
 
 -- What `say` promises.

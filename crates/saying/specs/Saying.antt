@@ -1,12 +1,17 @@
 -- What is said, line by line, and how it stands in the output buffer: what the program's functions promise each other.
-use mathlib.Core.Bool.{cond}
+use mathlib.Core.Bool.{false, cond}
 use mathlib.Core.List.{List, [], _∷_, _++_}
+use mathlib.Core.Path.{_≡_}
 use Prim.Native.Nat.{ℕ, _+_}
 use lib.ListN.{length}
 use Rattle.engine.specs.Calls.{response}
 use Rattle.framing.specs.Framing.{placed, lineFits}
-use Rattle.session.specs.declared.Waiting.{Waiting}
+use Rattle.saying.specs.declared.Waiting.{Waiting}
 use Rattle.transcript.specs.Session.{Progress, answerTo, withLine}
+
+-- A write that failed is not forgotten.
+abbrev pub FailureKept : Waiting → Waiting → Type 0
+FailureKept w w' = w .sound ≡ false → w' .sound ≡ false
 
 -- The lines that are said to a line, and to lines one after the other.
 unfoldable pub saidTo : Progress → List ℕ → List (List ℕ)

@@ -1,11 +1,11 @@
 -- A line of which 1,025 bytes are kept is taken as the whole line is.
 use mathlib.Core.Path.{ap, _∙_}
 use Rattle.transcript.specs.Session.{withLine}
-use Rattle.session.specs.Saying.{saidTo}
-use Rattle.session.proofs.KeptLines.{kept-taken, kept-said}
+use Rattle.saying.specs.Saying.{saidTo}
+use Rattle.saying.proofs.KeptLines.{kept-taken, kept-said}
 use borrow.Author.Needs.{needs}
-use Rattle.session.proofs.take_pending.Statement.{statement}
-use Rattle.session.proofs.take_pending.Tie as tie
+use Rattle.saying.proofs.take_pending.Statement.{statement}
+use Rattle.saying.proofs.take_pending.Tie as tie
 
 slice-aggregate-front : tie.Need-slice-aggregate-front
 slice-aggregate-front c = search needs

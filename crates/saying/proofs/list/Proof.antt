@@ -3,13 +3,13 @@ use Prim.Native.Nat.{suc, _+_, _-_, _≤_}
 use native.Mathlib.Omega.{arith}
 use mathlib.Core.Path.{_≡_, refl}
 use lib.ListN.{length}
-use Rattle.session.specs.Turns.{FailureKept}
-use Rattle.session.proofs.WhatWaits.{nothing-into}
+use Rattle.saying.specs.Saying.{FailureKept}
+use Rattle.saying.proofs.WhatWaits.{nothing-into}
 use Rattle.transcript.proofs.LaterLines.{later-few}
-use Rattle.session.proofs.ListingSaid.{Listed, ListedInto, none-listed, all-listed, past-listed, one-listed, all-into, one-into}
+use Rattle.saying.proofs.ListingSaid.{Listed, ListedInto, none-listed, all-listed, past-listed, one-listed, all-into, one-into}
 use borrow.Author.Needs.{needs}
-use Rattle.session.proofs.list.Statement.{statement}
-use Rattle.session.proofs.list.Tie as tie
+use Rattle.saying.proofs.list.Statement.{statement}
+use Rattle.saying.proofs.list.Tie as tie
 
 abbrev Inv-loop : tie.InvT-loop
 Inv-loop state out₀ answer₀ after₀ number₀ out answer after number =

@@ -1,8 +1,8 @@
 -- The engine takes the line; its answer is said, and the lines of a listing after it.
-use Rattle.session.proofs.LineTaken.{line-skipped, line-said, line-listed, skipped-into, said-into, listed-into}
+use Rattle.saying.proofs.LineTaken.{line-skipped, line-said, line-listed, skipped-into, said-into, listed-into}
 use borrow.Author.Needs.{needs}
-use Rattle.session.proofs.take_line.Statement.{statement}
-use Rattle.session.proofs.take_line.Tie as tie
+use Rattle.saying.proofs.take_line.Statement.{statement}
+use Rattle.saying.proofs.take_line.Tie as tie
 
 slice-aggregate-line : tie.Need-slice-aggregate-line
 slice-aggregate-line c = search needs

@@ -9,7 +9,7 @@ use Rattle.framing.specs.declared.Pending.{Pending}
 use Rattle.framing.specs.Framing.{clipped, pendingOf, bytesOf}
 use Rattle.framing.proofs.Clipped.{clipped-read-alike, clipped-empty-alike, pending-bytes}
 use Rattle.transcript.specs.Session.{Progress, answerTo, withResponse, withLine}
-use Rattle.session.specs.Saying.{saidTo}
+use Rattle.saying.specs.Saying.{saidTo}
 
 clipped-response : (e : Engine) (h line : List ℕ) (room : ℕ) → response e h (clipped line) room ≡ response e h line room
 unfolding response answering

@@ -1,0 +1,4 @@
+pub mod WhatWaits
+pub mod ListingSaid
+pub mod LineTaken
+pub mod KeptLines
