@@ -1,23 +1,23 @@
--- The three colours (document 01, "The circuit and its sum"): their numbers, the third beside two others, and something for each of them.
+-- The three colours (Manual 1.1): their numbers, the third beside two others, and something for each of them.
 use mathlib.Core.Bool.{Bool}
 use Prim.Native.Nat.{ℕ, zero, suc, _+_, _-_}
 use lib.Dec.{eqb}
 use Rattle.circuit.specs.declared.Colour.{Colour}
 use Rattle.circuit.specs.declared.Colour.the-variants.{Red, Blue, Green}
 
--- "Colours are r, b, g, numbered 0, 1, 2"
+-- The number of a colour: red 0, blue 1, green 2.
 abbrev pub numberOf : Colour → ℕ
 numberOf Red = 0
 numberOf Blue = 1
 numberOf Green = 2
 
--- The colour of a number; the paper numbers no colour from 3 on, and there it is green.
+-- The colour of a number. No colour is numbered from 3 on, and there it is green.
 abbrev pub colourOf : ℕ → Colour
 colourOf zero = Red
 colourOf (suc zero) = Blue
 colourOf (suc (suc n)) = Green
 
--- "the third colour beside two others is 3 less both"
+-- The third colour beside two different ones: its number is 3 less their two numbers.
 abbrev pub thirdOf : Colour → Colour → Colour
 thirdOf c d = colourOf (3 - (numberOf c + numberOf d))
 
@@ -37,7 +37,7 @@ the Red x = x .red
 the Blue x = x .blue
 the Green x = x .green
 
--- What the first and the second of the other two colours have, in order r, b, g.
+-- What the first and the second of the other two colours have, in order r, b, g (Manual 3.1, 4.4).
 unfoldable pub first : {A : Type 0} → Colour → Three A → A
 first Red x = x .blue
 first Blue x = x .red

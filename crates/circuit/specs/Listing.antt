@@ -1,5 +1,4 @@
--- The terms in order (document 01, "Bracket lines": "every term once, in any order").
--- The order is the one that document 02 (d) asks for, so that it is fixed from the start.
+-- The listing of a polynomial (Manual 6.2): its terms, each once, in a fixed order.
 use mathlib.Core.Bool.{cond}
 use mathlib.Core.List.{List, [], _∷_, _++_}
 use Prim.Native.Nat.{ℕ, zero, suc, _+_}
@@ -17,11 +16,11 @@ unfoldable pub overPositions : ℕ → (ℕ → List Term) → List Term
 overPositions zero f = []
 overPositions (suc n) f = overPositions n f ++ f (suc n)
 
--- Terms with a position of each colour, by red, then blue, then green position.
+-- CCZ terms, with a position of each colour: by red, then blue, then green position.
 unfoldable pub triples : ℕ → List Term
 triples m = overPositions m (λ i. overPositions m (λ j. overPositions m (λ k. term i j k ∷ [])))
 
--- Terms with no position of C, by the first and then the second of the other two.
+-- CZ terms, with no position of C: by the first and then the second position of the other two.
 unfoldable pub pairsBeside : Colour → ℕ → List Term
 pairsBeside C m = overPositions m (λ i. overPositions m (λ j. join C 0 i j ∷ []))
 
@@ -34,16 +33,16 @@ unfoldable pub among : Polynomial → List Term → List Term
 among f [] = []
 among f (h ∷ hs) = cond (f h) (h ∷ among f hs) (among f hs)
 
--- The listing of a polynomial.
+-- The listing of a polynomial of m positions.
 unfoldable pub listing : ℕ → Polynomial → List Term
 listing m f = among f (everyTerm m)
 
--- How often a term stands in a list: a listing with "every term once" and nothing else has each term of the polynomial once, any other not at all.
+-- How often a term stands in a list. In a listing it is once for a term of the polynomial, and not at all for any other.
 unfoldable pub occurrences : Term → List Term → ℕ
 occurrences h [] = 0
 occurrences h (k ∷ ks) = cond (sameTerm h k) 1 0 + occurrences h ks
 
--- "each a `ccz` or `cz` form": the gate that adds a term, colours in the order r, b, g.
+-- The gate that adds a term, as it is listed: a CCZ, or a CZ with its colours in the order r, b, g.
 unfoldable pub gateOfTerm : ℕ → ℕ → ℕ → Gate
 gateOfTerm zero j k = Cz (record { colour = Blue; position = j }) (record { colour = Green; position = k })
 gateOfTerm (suc i) zero k = Cz (record { colour = Red; position = suc i }) (record { colour = Green; position = k })

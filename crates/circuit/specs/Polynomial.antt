@@ -1,4 +1,4 @@
--- The phase polynomial (document 01, "The circuit and its sum"; source document 000, equation 1).
+-- The phase polynomial, and what a gate makes of it (Manual 2.1, 2.2; source document 000, equation 1).
 use mathlib.Core.Bool.{Bool, false, _&&_}
 use mathlib.Core.List.{List, [], _∷_}
 use Prim.Native.Nat.{ℕ, suc}
@@ -22,26 +22,27 @@ term i j k = record { red = i; blue = j; green = k }
 unfoldable pub sameTerm : Term → Term → Bool
 sameTerm h k = eqb (h .red) (k .red) && (eqb (h .blue) (k .blue) && eqb (h .green) (k .green))
 
--- "The phase polynomial is a set of terms": true for the terms in it.
+-- A set of terms: true for those in it.
 abbrev pub Polynomial : Type 0
 Polynomial = Term → Bool
 
+-- A new circuit has the empty polynomial.
 unfoldable pub empty : Polynomial
 empty h = false
 
--- A term added: "A term added twice is gone."
+-- A term added. One that is in the set already is taken out, so a term added twice is gone.
 unfoldable pub toggled : Term → Polynomial → Polynomial
 toggled h f k = f k ⊕ sameTerm k h
 
--- "CNOT with control c and target t adds, for every term holding t, that term with c in its place. Equal terms cancel."
+-- CNOT on C: every term that holds the target t adds the same term with the control c in its place. One that is there already cancels.
 unfoldable pub substituted : Colour → ℕ → ℕ → Polynomial → Polynomial
 substituted C c t f h = f h ⊕ (eqb (the C h) c && f (put C t h))
 
--- "one position of each colour, or two positions of different colours"
+-- The term of a CZ: the two positions, and none of the third colour.
 unfoldable pub pair : Spot → Spot → Term
 pair p q = put (p .colour) (p .position) (put (q .colour) (q .position) (term 0 0 0))
 
--- What a gate makes of the polynomial.
+-- What a gate makes of the polynomial: a CCZ or CZ adds its term.
 unfoldable pub applied : Gate → Polynomial → Polynomial
 applied (Ccz i j k) f = toggled (term i j k) f
 applied (Cz p q) f = toggled (pair p q) f
@@ -51,7 +52,7 @@ unfoldable pub appliedAll : List Gate → Polynomial → Polynomial
 appliedAll [] f = f
 appliedAll (g ∷ gs) f = appliedAll gs (applied g f)
 
--- The polynomial of a circuit.
+-- The polynomial of a circuit: its gates in order, from the empty one on.
 unfoldable pub polynomial : List Gate → Polynomial
 polynomial gs = appliedAll gs empty
 
@@ -63,6 +64,6 @@ product h x = at (h .red) (x .red) && (at (h .blue) (x .blue) && at (h .green) (
 unfoldable pub parityAll : ℕ → (Term → Bool) → Bool
 parityAll n f = parity n (λ i. parity n (λ j. parity n (λ k. f (term i j k))))
 
--- "f(x) = the sum of its terms at x, modulo 2" (000, equation 1)
+-- The value at a string: the values of the terms added up, modulo 2 (000, equation 1).
 unfoldable pub value : ℕ → Polynomial → Basis → Bool
 value m f x = parityAll (suc m) (λ h. f h && product h x)

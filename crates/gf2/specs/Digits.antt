@@ -1,4 +1,4 @@
--- A number as a bit string, position 1 the highest digit.
+-- A number as a bit string, position 1 the highest digit (Manual 3.4, 4.4).
 use mathlib.Core.Bool.{Bool, true, false}
 use mathlib.Core.List.{[], _∷_}
 use Prim.Native.Nat.{ℕ, zero, suc, _/_, _%_, _^_}

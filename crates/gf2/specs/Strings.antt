@@ -1,4 +1,4 @@
--- Bit strings: sums modulo 2, the dot product, a bit turned over.
+-- Bit strings (Manual 1.3, 4.4): sums modulo 2, the dot product, a bit turned over.
 -- Strings of unequal length are taken as if the shorter one went on with zeros, so no law here asks for a length.
 use mathlib.Core.Bool.{Bool, true, false, not, cond, _&&_}
 use mathlib.Core.List.{List, [], _∷_}
@@ -15,13 +15,13 @@ unfoldable pub _⊕_ : Bool → Bool → Bool
 false ⊕ b = b
 true ⊕ b = not b
 
--- The sum of two strings, bit by bit.
+-- The sum of two strings, bit by bit modulo 2 (Manual 1.6).
 unfoldable pub _⊞_ : BitString → BitString → BitString
 [] ⊞ b = b
 (x ∷ a) ⊞ [] = x ∷ a
 (x ∷ a) ⊞ (y ∷ b) = (x ⊕ y) ∷ (a ⊞ b)
 
--- Do two strings share an odd number of ones?
+-- Do two strings share an odd number of ones (Manual 1.5)?
 unfoldable pub dot : BitString → BitString → Bool
 dot [] b = false
 dot (x ∷ a) [] = false
@@ -39,7 +39,7 @@ flip j [] = []
 flip zero (x ∷ v) = not x ∷ v
 flip (suc j) (x ∷ v) = x ∷ flip j v
 
--- The bit at place t is replaced by itself plus the bit at place c.
+-- The bit at place t becomes itself plus the bit at place c, modulo 2 (Manual 1.4).
 unfoldable pub cnot : ℕ → ℕ → BitString → BitString
 cnot c t v = cond (bit c v) (flip t v) v
 

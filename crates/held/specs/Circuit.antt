@@ -1,4 +1,4 @@
--- What is held of a circuit, and what the lines make of it (document 01, "Bracket lines").
+-- The circuit that is held, and what accepted lines make of it (Manual 5.1 to 5.7, 8.2).
 use mathlib.Core.List.{List, [], _++_}
 use Prim.Native.Nat.{ℕ, _-_}
 use lib.ListN.{length, take}
@@ -12,21 +12,22 @@ pub record Circuit : Type 0 where
   pub gates : List Gate
   pub start : Basis
 
+-- A start of zeros, as it is until one is set (Manual 1.6).
 unfoldable pub allZeros : ℕ → Basis
 allZeros m = record { red = zeros m; blue = zeros m; green = zeros m }
 
--- "new, empty circuit, start all zeros"
+-- `circuit`: no gates, and a start of zeros (Manual 5.1).
 unfoldable pub newCircuit : ℕ → Circuit
 newCircuit m = record { m = m; gates = []; start = allZeros m }
 
--- A gate "puts its gate at the end, a layer its gates from left to right".
+-- A gate or a layer: its gates, from left to right, behind those held (Manual 5.2 to 5.5).
 unfoldable pub withGates : List Gate → Circuit → Circuit
 withGates gs c = record { m = c .m; gates = c .gates ++ gs; start = c .start }
 
--- "takes back the last k gates"
+-- `undo`: without the last k gates; the start stays (Manual 5.6).
 unfoldable pub withoutLast : ℕ → Circuit → Circuit
 withoutLast k c = record { m = c .m; gates = take (length (c .gates) - k) (c .gates); start = c .start }
 
--- "starting string .. It is not a gate"
+-- `start`: another starting string; it is not a gate, and the gates stay (Manual 5.7, 8.2).
 unfoldable pub withNewStart : Basis → Circuit → Circuit
 withNewStart s c = record { m = c .m; gates = c .gates; start = s }

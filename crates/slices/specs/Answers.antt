@@ -1,4 +1,4 @@
--- What a slice answers. The first two definitions are what the public call promises; the rest is how the code comes to it.
+-- What a slice answers (Manual 3.3). The first two definitions are what the public call promises; the rest is how the code comes to it.
 use mathlib.Core.Bool.{Bool, cond, not, _||_}
 use mathlib.Core.List.{List}
 use Prim.Native.Nat.{ℕ, _-_, _*_, _%_, _^_}
@@ -21,11 +21,11 @@ use Rattle.slices.specs.Slices.{coefficient}
 use Rattle.slices.specs.Totals.{isNought, sliceRank, signedPart}
 use Rattle.slices.specs.Packing.{packedRows}
 
--- "A slice answers its inner sum and rank": the inner sum with the sign that it has in the signed sum.
+-- A slice answers its inner sum, with the sign that it has in the signed sum (Manual 3.5), and its rank.
 unfoldable pub sliceAnswer : ℕ → Polynomial → Colour → Basis → BitString → Slice
 sliceAnswer m f C s z = record { signed = signedPart m f C s z; rank = sliceRank m f C (first C s) (second C s) z }
 
--- "a slice whose inner sum is 0 answers rank 0"; a number that no slice has answers the same.
+-- Where the inner sum is 0 the rank is 0; a number that no slice has answers the same.
 abbrev pub nought : Slice
 nought = record { signed = pos 0; rank = 0 }
 
@@ -35,7 +35,7 @@ nought = record { signed = pos 0; rank = 0 }
 unfoldable pub cleared : Outcome → ℕ
 cleared o = ones (o .columns % 2 ^ 16)
 
--- "It is 0 exactly if the first system has no solution or the second vector is outside Γ's row space."
+-- The inner sum is 0: the first system has no solution, or the second vector is outside Γ's row space (Manual 3.2).
 unfoldable pub vanishing : Outcome → Bool
 vanishing o = bitAt (o .columns) 16 || not (isZero (lowFirst 16 (o .last)))
 

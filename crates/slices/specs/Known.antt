@@ -1,4 +1,4 @@
--- Known sums (document 01): those that are to be proved, as one table.
+-- Known sums (Manual 14): those with a star, as one table.
 use mathlib.Core.Bool.{Bool, true, false}
 use mathlib.Core.List.{List, [], _∷_}
 use Prim.Native.Nat.{ℕ}

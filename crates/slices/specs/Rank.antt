@@ -1,4 +1,4 @@
--- The rank of a matrix by its meaning, and the two systems (document 01, "The circuit and its sum").
+-- The rank of a matrix by its meaning (Manual 3.3), the first system and the row space (Manual 3.2).
 use mathlib.Core.Bool.{Bool, true, false, cond, _||_}
 use mathlib.Core.List.{List, [], _∷_}
 use Prim.Native.Nat.{ℕ, zero, suc, _+_, _-_, _^_}
@@ -33,7 +33,7 @@ unfoldable pub someString : ℕ → (BitString → Bool) → Bool
 someString zero p = p []
 someString (suc m) p = someString m (λ w. p (false ∷ w)) || someString m (λ w. p (true ∷ w))
 
--- "The first system is Γ times an unknown string equal to the first vector."
+-- Has the system a solution? The matrix times an unknown string is to equal a; the first system has the first vector there.
 unfoldable pub solvable : ℕ → List BitString → BitString → Bool
 solvable m rs a = someString m (λ v. isZero (a ⊞ times rs v))
 
@@ -43,6 +43,6 @@ combined [] rs = []
 combined (x ∷ u) [] = []
 combined (x ∷ u) (r ∷ rs) = cond x r [] ⊞ combined u rs
 
--- "Γ's row space": the sums of its rows.
+-- Is b in the row space, that is, a sum of rows?
 unfoldable pub inRowSpace : ℕ → List BitString → BitString → Bool
 inRowSpace m rs b = someString m (λ u. isZero (b ⊞ combined u rs))

@@ -1,4 +1,4 @@
--- What slices answer and what they add up to (document 01, "The circuit and its sum" and "Bracket lines").
+-- What slices answer and what they add up to (Manual 3.3 to 3.6).
 use mathlib.Core.Bool.{Bool, true, false, cond, _&&_}
 use Prim.Native.Nat.{ℕ, zero, suc, _+_, _-_, _*_, _^_}
 use lib.Dec.{leb}
@@ -18,16 +18,16 @@ isNought (pos zero) = true
 isNought (pos (suc n)) = false
 isNought (negsuc n) = false
 
--- "A slice answers its inner sum and rank; a slice whose inner sum is 0 answers rank 0."
+-- The rank that a slice answers: that of Γ, but 0 where the inner sum is 0 (Manual 3.3).
 unfoldable pub sliceRank : ℕ → Polynomial → Colour → BitString → BitString → BitString → ℕ
 sliceRank m f C X Y z = cond (isNought (innerSum m f C X Y z)) 0 (rank m (gamma m f C z))
 
--- A slice's part of the signed sum: its inner sum with the sign of the slice's string beside the output string's.
+-- A slice's part of the signed sum (Manual 3.5): its inner sum, the sign turned if z and C's output string share an odd number of ones.
 abbrev pub signedPart : ℕ → Polynomial → Colour → Basis → BitString → ℤ
 signedPart m f C s z = sgn (dot (the C s) z) *ℤ innerSum m f C (first C s) (second C s) z
 
--- "Slices go in the order of their strings, read as binary numbers from 0 up, position 1 the highest digit. An open sum holds the number of
--- slices worked and what exactly these add up to." For an amplitude, their parts of the signed sum: the signed total after the first w slices.
+-- The total of an amplitude after the first w slices: the parts of exactly these, in whole units. Slices go by their numbers from 0 up, position 1
+-- being the highest digit (Manual 3.4).
 unfoldable pub amplitudeAfter : ℕ → Polynomial → Colour → Basis → ℕ → ℤ
 amplitudeAfter m f C s w = sumBelow w (λ n. signedPart m f C s (highFirst m n))
 
@@ -35,7 +35,7 @@ amplitudeAfter m f C s w = sumBelow w (λ n. signedPart m f C s (highFirst m n))
 unfoldable pub amplitudeOver : ℕ → Polynomial → Colour → Basis → ℕ → ℕ → ℤ
 amplitudeOver m f C s from count = sumBelow count (λ k. signedPart m f C s (highFirst m (from + k)))
 
--- What a slice adds to a readout count: "2^(2m − 2 rank) over the slices on that colour whose inner sum is not 0".
+-- What a slice adds to a readout count (Manual 3.6): 2^(2m − 2 rank), and nothing where its inner sum is 0.
 unfoldable pub share : ℕ → Polynomial → Colour → BitString → BitString → BitString → ℕ
 share m f C X Y z = cond (isNought (innerSum m f C X Y z)) 0 (2 ^ (2 * m - 2 * rank m (gamma m f C z)))
 
@@ -44,7 +44,7 @@ unfoldable pub tallyBelow : ℕ → (ℕ → ℕ) → ℕ
 tallyBelow zero f = 0
 tallyBelow (suc n) f = tallyBelow n f + f n
 
--- The readout count after the first w slices.
+-- The readout count after the first w slices: what exactly these add (Manual 3.4).
 unfoldable pub readoutAfter : ℕ → Polynomial → Colour → BitString → BitString → ℕ → ℕ
 readoutAfter m f C X Y w = tallyBelow w (λ n. share m f C X Y (highFirst m n))
 
@@ -52,11 +52,11 @@ readoutAfter m f C X Y w = tallyBelow w (λ n. share m f C X Y (highFirst m n))
 unfoldable pub readoutOver : ℕ → Polynomial → Colour → BitString → BitString → ℕ → ℕ → ℕ
 readoutOver m f C X Y from count = tallyBelow count (λ k. share m f C X Y (highFirst m (from + k)))
 
--- "Readout count T, one colour unread": after all slices.
+-- The readout count T of X and Y, C unread: after all 2^m slices (Manual 3.6).
 unfoldable pub readoutCount : ℕ → Polynomial → Colour → BitString → BitString → ℕ
 readoutCount m f C X Y = readoutAfter m f C X Y (2 ^ m)
 
--- "Amplitudes and counts are those of the all-zero start for the output string with the starting ones added modulo 2".
+-- The output string s with the start t added. What is answered for t at s is what is answered there for a start of zeros (Manual 1.6).
 unfoldable pub withStart : Basis → Basis → Basis
 withStart t s = record { red = s .red ⊞ t .red; blue = s .blue ⊞ t .blue; green = s .green ⊞ t .green }
 
