@@ -1,4 +1,4 @@
--- The bytes of an answer line, and where they stand in a lent buffer (document 01, "Bracket lines").
+-- The bytes of an answer line (Manual 6.1, 6.2), and where they stand in a lent buffer (Manual 6.3).
 use Prim.Native.Nat.{ℕ}
 use mathlib.Core.Bool.{cond}
 use mathlib.Core.Path.{_≡_}
@@ -9,8 +9,7 @@ use Rattle.text.specs.Spelling.{bytes, decimal, signedDecimal, spelledGate}
 use Rattle.answers.specs.declared.Answer.{Answer}
 use Rattle.answers.specs.declared.Answer.the-variants.{Ok, Left, Amplitude, Readout, Terms, Listed, Refused}
 
--- "Answers, one line each: `(ok)` .. `(left L)` .. `(amp S n)` or `(part T n)` .. `(terms N)` and then N lines, each a `ccz` or `cz` form ..
--- `(no E)` for refusal E."
+-- The line of each answer. A listed term is a line of its own, a `ccz` or `cz` form; E is the number of the refusal.
 unfoldable pub bytesOf : Answer → List ℕ
 bytesOf Ok = bytes "(ok)"
 bytesOf (Left l) = bytes "(left " ++ (decimal l ++ bytes ")")
@@ -20,7 +19,7 @@ bytesOf (Terms n) = bytes "(terms " ++ (decimal n ++ bytes ")")
 bytesOf (Listed g) = spelledGate g
 bytesOf (Refused e) = bytes "(no " ++ (decimal e ++ bytes ")")
 
--- "Answer bytes stand at the front of the lent buffer and the rest of it is untouched."
+-- The lent buffer with a text at its front, and the rest as it was.
 unfoldable pub infront : List ℕ → List ℕ → List ℕ
 infront text buffer = text ++ drop (length text) buffer
 

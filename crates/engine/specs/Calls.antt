@@ -1,4 +1,4 @@
--- The promises of the public calls: everything that a call leaves is what these definitions give, on every path.
+-- The promises of the public calls (Manual 9.2 to 9.4): everything that a call leaves is what these definitions give, on every path.
 use mathlib.Core.Bool.{Bool, false, cond, _&&_}
 use mathlib.Core.List.{List, []}
 use mathlib.Core.Path.{_≡_}
@@ -28,6 +28,7 @@ use Rattle.engine.specs.Soundness.{Sound}
 
 -- ---- the state of an engine
 
+-- Every field of the state is fixed by the engine.
 unfoldable pub encode : Engine → State
 encode e = record { circuit = encodeCircuit (e .circuit); sum = encodeSum (e .opened); listed = e .listed }
 
@@ -52,8 +53,8 @@ unfoldable pub asksTerms : Reading → Bool
 asksTerms (typed t) = isClass Lists (row t .class)
 asksTerms (refused n) = false
 
--- A line that is read: its answer is written, and it ends the fetching of earlier lines. The history gets the codes of its gates unless it is
--- refused.
+-- A line that is read: its answer is written, and it ends the fetching of earlier lines (Manual 9.3). The history gets the codes of its gates
+-- unless it is refused (Manual 7.9, 8.2).
 unfoldable pub answering : Engine → List ℕ → List ℕ → Response
 answering e h line =
     let r = readingOf line in
@@ -66,15 +67,16 @@ answering e h line =
       history = cond (eqb n 0) (stored (length (e .circuit .gates)) (gatesIn r) h) h;
     }
 
--- Refusal 1: "shorter than 64 bytes; it is then not written". The line ends the fetching of earlier lines all the same.
+-- Refusal 1, on a buffer of fewer than 64 bytes: nothing is written (Manual 7.2). The line ends the fetching of earlier lines all the same.
 unfoldable pub tooShort : Engine → List ℕ → Response
 tooShort e h =
     record { after = record { circuit = e .circuit; opened = e .opened; listed = false }; bytes = []; refusal = 1; history = h }
 
--- "A line of no bytes is skipped before any place is tried: no answer, nothing changed."
+-- A line of no bytes, passed over before any refusal is tried: no answer, nothing changed (Manual 4.1).
 unfoldable pub skipped : Engine → List ℕ → Response
 skipped e h = record { after = e; bytes = []; refusal = 0; history = h }
 
+-- What a call does, by the engine, its history, the line, and the length of the answer buffer.
 unfoldable pub response : Engine → List ℕ → List ℕ → ℕ → Response
 response e h line room = cond (eqb (length line) 0) (skipped e h) (cond (ltb room 64) (tooShort e h) (answering e h line))
 
@@ -97,18 +99,20 @@ unfoldable pub entryBytes : Entry → List ℕ
 entryBytes (ListedAt g) = bytesOf (Listed g)
 entryBytes Nothing = []
 
--- "Later lines of the last answer are fetched by number, the line after the first being 1 .. a number with no line, 0 included, gives no bytes."
+-- The later lines of a `terms` answer, the line after the first being 1. A number that has no line, as 0, gives no bytes (Manual 9.3).
 unfoldable pub lineNumbered : List Gate → ℕ → List ℕ
 lineNumbered gs zero = []
 lineNumbered gs (suc n) = entryBytes (entryOf (listing 16 (polynomial gs)) n)
 
+-- Later lines can be fetched until the next line with bytes in it, refused or not.
 unfoldable pub laterLine : Engine → ℕ → List ℕ
 laterLine e n = cond (e .listed) (lineNumbered (e .circuit .gates) n) []
 
--- "each fetch tries the buffer's length by refusal 1 and changes nothing else"
+-- A fetch on a buffer of fewer than 64 bytes gives none: that is refusal 1 (Manual 7.2, 9.3).
 unfoldable pub fetchedBytes : Engine → ℕ → ℕ → List ℕ
 fetchedBytes e n room = cond (ltb room 64) [] (laterLine e n)
 
+-- On the state of an engine, everything that a fetch gives.
 pub record FetchGiven (e : Engine) (n : ℕ) (buffer : List ℕ) (f : Fetched) (buffer' : List ℕ) : Type 0 where
   pub len : f .len ≡ length (fetchedBytes e n (length buffer))
   pub refusal : f .refusal ≡ cond (ltb (length buffer) 64) 1 0

@@ -1,4 +1,4 @@
--- The engine: what a session is at any moment (document 01, "Bracket lines").
+-- The engine: what a session is at any moment (Manual 8.1, 9.1 to 9.3).
 use mathlib.Core.Bool.{Bool, false}
 use Rattle.held.specs.Circuit.{Circuit, newCircuit}
 use Rattle.sums.specs.Sums.{Opened, closed}
@@ -9,6 +9,6 @@ pub record Engine : Type 0 where
   pub opened : Opened
   pub listed : Bool
 
--- "a fresh engine (no circuit)"
+-- A fresh engine has no circuit (Manual 9.1).
 unfoldable pub freshEngine : Engine
 freshEngine = record { circuit = newCircuit 0; opened = closed; listed = false }

@@ -53,7 +53,7 @@ partFrom l o =
     closed l d (Form.Part c x y)
 
 -- The gates of a layer from here on: `skip` bytes of the last one are still to be passed, n gates are, and `twice` tells of a `cz` with
--- one colour twice among them. "4 before 5": that is refused only at the line's end.
+-- one colour twice among them. Since 4 is tried before 5 (Manual 7.1), that is refused only at the line's end.
 unfoldable pub layerFrom : ℕ → ℕ → Bool → List ℕ → Form
 layerFrom skip n twice [] = Form.Refused 4
 layerFrom (suc skip) n twice (x ∷ xs) = layerFrom skip n twice xs

@@ -70,7 +70,7 @@ unfoldable pub gateEnd : GateAt → ℕ
 gateEnd (GateRead g n) = n
 gateEnd NoGate = 0
 
--- "each as a part of the line itself, brackets included"
+-- The gate's own part of the line, brackets included (Manual 4.6).
 unfoldable pub gatePart : List ℕ → List ℕ
 gatePart l = take (gateEnd (readGate l)) l
 

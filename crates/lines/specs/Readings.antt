@@ -30,11 +30,11 @@ typedOf l =
     (cond (begins (bytes "(drop)") l) dropped
     (cond (begins (bytes "(terms)") l) terms (gate (gateOf l))))))))))
 
--- Refusals 4 and 5 of a line: "not one of the twelve forms, or a bit string holds another digit", and a `cz` with one colour twice.
+-- Refusals 4 and 5 of a line (Manual 7.4): it is not the spelling of a form, whose bit strings have a digit at least; a `cz` has one colour twice.
 unfoldable pub shapeAs : List ℕ → Typed → Reading
 shapeAs l t =
     cond (allSome (row t .strings) && sameBytes l (spelled t)) (cond (anyColourTwice (row t .gates)) (refused 5) (typed t)) (refused 4)
 
--- Refusals 2 and 3 before them: "longer than 1,024 bytes, line feed not counted". A line of no bytes is skipped before it is read.
+-- Refusals 2 and 3 before them: more than 1,024 bytes, a byte not allowed (Manual 7.3). A line of no bytes is skipped before it is read.
 unfoldable pub readingOf : List ℕ → Reading
 readingOf l = cond (ltb 1024 (length l)) (refused 2) (cond (allAllowed l) (shapeAs l (typedOf l)) (refused 3))

@@ -1,5 +1,5 @@
--- How the forms are spelled (document 01, "Bracket lines"), and what the places Line and Form look at ("Where a line is turned back"). A line is
--- read as the form that it spells, or refused by 2, 3, 4 or 5: `read-exactly` and `refused-2` to `refused-5` in proofs/Readings say when.
+-- How the forms are spelled (Manual 4.2, 4.6, 5), and what the places Line and Form look at (Manual 7.3, 7.4). A line is read as the form that
+-- it spells, or refused by 2, 3, 4 or 5: `read-exactly` and `refused-2` to `refused-5` in proofs/Readings say when.
 use Prim.Native.Nat.{ℕ}
 use mathlib.Core.Bool.{Bool, true, false, not, _&&_, _||_}
 use mathlib.Core.List.{List, [], _∷_, _++_}
@@ -15,7 +15,7 @@ use Rattle.lines.specs.Typed.{amp, part, Typed, circuit, gate, layer, un
 
 -- ---- one spelling a form
 
--- "Items stand one space apart": a space before each gate of a layer.
+-- The gates of a layer, a space before each (Manual 4.6).
 unfoldable pub spelledGates : List Gate → List ℕ
 spelledGates [] = []
 spelledGates (g ∷ gs) = bytes " " ++ (spelledGate g ++ spelledGates gs)
@@ -24,6 +24,7 @@ spelledGates (g ∷ gs) = bytes " " ++ (spelledGate g ++ spelledGates gs)
 unfoldable pub spelledBits : BitString → List ℕ
 spelledBits s = bytes " " ++ bitDigits s
 
+-- The bytes of each form: one space between two items, and no other (Manual 4.2).
 unfoldable pub spelled : Typed → List ℕ
 spelled (circuit m) = bytes "(circuit " ++ (decimal m ++ bytes ")")
 spelled (gate g) = spelledGate g
@@ -36,7 +37,7 @@ spelled (step k) = bytes "(step " ++ (decimal k ++ bytes ")")
 spelled dropped = bytes "(drop)"
 spelled terms = bytes "(terms)"
 
--- "one or more digits 0 and 1"
+-- A bit string has one digit at least (Manual 4.4).
 unfoldable pub someBits : BitString → Bool
 someBits s = not (eqb (length s) 0)
 
@@ -44,7 +45,7 @@ unfoldable pub allSome : List BitString → Bool
 allSome [] = true
 allSome (s ∷ ss) = someBits s && allSome ss
 
--- The bytes are the spelling of a form.
+-- The bytes are the spelling of a form: all of them, and nothing before or after (Manual 4.2).
 pub record Spells (l : List ℕ) (t : Typed) : Type 0 where
   pub strings : allSome (row t .strings) ≡ true
   pub is : l ≡ spelled t
@@ -56,7 +57,7 @@ pub data Reading : Type 0 where
   typed : Typed → Reading
   refused : ℕ → Reading
 
--- Refusal 3: "a byte other than digits, a to z, ( ) and space"
+-- Refusal 3 is for any other byte: digits, a to z, brackets and space are allowed (Manual 7.3).
 unfoldable pub isAllowed : ℕ → Bool
 isAllowed x = (leb 48 x && leb x 57) || ((leb 97 x && leb x 122) || (eqb x 40 || (eqb x 41 || eqb x 32)))
 
@@ -64,7 +65,7 @@ unfoldable pub allAllowed : List ℕ → Bool
 allAllowed [] = true
 allAllowed (x ∷ xs) = isAllowed x && allAllowed xs
 
--- Refusal 5: "a `cz` with one colour twice"
+-- Refusal 5: a `cz`, alone or in a layer, names one colour twice (Manual 7.4).
 unfoldable pub colourTwice : Gate → Bool
 colourTwice (Ccz i j k) = false
 colourTwice (Cz p q) = sameColour (p .colour) (q .colour)

@@ -1,4 +1,4 @@
--- Where a line is turned back (document 01): after Line and Form the places Moment, Operands and History, by the row of the form that was typed.
+-- Refusals (Manual 7.1, 7.5 to 7.7): after Line and Form the places Moment, Operands and History, by the row of the form that was typed.
 -- Each gives the refusal's number, 0 for none; a place is tried over the whole line before the next, the lowest number in a place wins.
 use mathlib.Core.Bool.{Bool, true, false, not, cond, _&&_, _||_}
 use mathlib.Core.List.{List, [], _∷_}
@@ -38,14 +38,13 @@ classNumber Lists = 7
 unfoldable pub isClass : Class → Class → Bool
 isClass c d = eqb (classNumber c) (classNumber d)
 
--- "`step` or `drop`"
+-- Is the form `step` or `drop`?
 unfoldable pub works : Class → Bool
 works c = isClass Steps c || isClass Drops c
 
 -- ---- Moment
 
--- 6: "no circuit yet, and the form is not `circuit`"; 7: "a sum is open, and the form is not `step` or `drop`"; 8: "no sum is open, and the
--- form is `step` or `drop`"
+-- 6: every form but `circuit` while there is no circuit; 7: every form but `step` and `drop` while a sum is open; 8: these two while none is.
 unfoldable pub momentRefusal : Bool → Bool → Class → ℕ
 momentRefusal loaded summing c =
     orElse (refusedIf (not loaded && not (isClass Creates c)) 6)
@@ -53,6 +52,7 @@ momentRefusal loaded summing c =
 
 -- ---- Operands
 
+-- Is n from `low` to `high`?
 unfoldable pub within : ℕ → ℕ → ℕ → Bool
 within low high n = leb low n && leb n high
 
@@ -66,11 +66,11 @@ unfoldable pub allInRange : ℕ → List Gate → Bool
 allInRange m [] = true
 allInRange m (g ∷ gs) = inRange m g && allInRange m gs
 
--- 9: "m, a position, k, or a layer's gate count outside its range"
+-- 9: the form's number (m, k, how many gates) or a position is outside its range.
 unfoldable pub outOfRange : ℕ → Row → Bool
 outOfRange m r = not (within (r .least) (r .most) (r .number) && allInRange m (r .gates))
 
--- 10: "`cnot` with control equal to target"
+-- 10: a `cnot` has its control equal to its target.
 unfoldable pub onItself : Gate → Bool
 onItself (Gate.Ccz i j k) = false
 onItself (Gate.Cz p q) = false
@@ -80,26 +80,27 @@ unfoldable pub anyOnItself : List Gate → Bool
 anyOnItself [] = false
 anyOnItself (g ∷ gs) = onItself g || anyOnItself gs
 
--- 11: "a bit string not m long"
+-- 11: a bit string does not have m digits.
 unfoldable pub anyNotLong : ℕ → List BitString → Bool
 anyNotLong m [] = false
 anyNotLong m (s ∷ ss) = not (eqb (length s) m) || anyNotLong m ss
 
+-- Each number is tried over the whole line before the next.
 unfoldable pub operandRefusal : ℕ → Row → ℕ
 operandRefusal m r =
     orElse (refusedIf (outOfRange m r) 9) (orElse (refusedIf (anyOnItself (r .gates)) 10) (refusedIf (anyNotLong m (r .strings)) 11))
 
 -- ---- History
 
--- "The history holds 4,096 gates, or the lent history's length if that is shorter".
+-- The history has as many places as are lent, but at most 4,096 (Manual 8.1).
 unfoldable pub places : ℕ → ℕ
 places room = min 4096 room
 
--- 12: "undo of more gates than are held"
+-- 12: an `undo` asks for more gates than are held.
 unfoldable pub undoesMore : ℕ → Row → Bool
 undoesMore held r = isClass TakesBack (r .class) && ltb held (r .number)
 
--- 13: "fewer free places than the line has gates"
+-- 13: the line has more gates than there are free places.
 unfoldable pub historyRefusal : ℕ → ℕ → Row → ℕ
 historyRefusal room held r =
     orElse (refusedIf (undoesMore held r) 12) (refusedIf (ltb (places room - held) (length (r .gates))) 13)
@@ -110,8 +111,8 @@ unfoldable pub rowRefusal : Bool → Bool → ℕ → ℕ → ℕ → Row → �
 rowRefusal loaded summing m room held r =
     orElse (momentRefusal loaded summing (r .class)) (orElse (operandRefusal m r) (historyRefusal room held r))
 
--- "Places are tried from the top.": Line and Form, which the reading has tried, then Moment, Operands, History. By what they look at: whether
--- there is a circuit and an open sum, m, the places of the history and how many are held, and what the line is read as.
+-- The places from the top: Line and Form, which the reading has tried, then Moment, Operands, History. By what they look at: whether there is a
+-- circuit and an open sum, m, the lent history's length and how many gates are held, and what the line is read as.
 unfoldable pub refusalBy : Bool → Bool → ℕ → ℕ → ℕ → Reading → ℕ
 refusalBy loaded summing m room held (typed t) = rowRefusal loaded summing m room held (row t)
 refusalBy loaded summing m room held (refused n) = n

@@ -1,4 +1,4 @@
--- The open sum (document 01, "Bracket lines"): what it was opened for, the slices worked, what exactly these add up to, and its end.
+-- The open sum (Manual 3.4, 5.8 to 5.10): what it was opened for, the slices worked, what exactly these add up to, and its end.
 use mathlib.Core.Bool.{Bool, true, false, cond}
 use Prim.Native.Nat.{ℕ, _+_, _-_, _*_, _^_}
 use lib.Dec.{ltb}
@@ -30,37 +30,37 @@ unfoldable pub isRunning : Opened → Bool
 isRunning closed = false
 isRunning (running o) = true
 
--- What the first w slices add up to: the signed total of an amplitude, the readout count of a `part`, whose X and Y "belong to the other two
--- colours in order r, b, g". The output string has "the starting ones added modulo 2".
+-- What the first w slices add up to: the signed total of an `amp` (Manual 3.5), the readout count of a `part` (Manual 3.6), whose X and Y are those
+-- of the other two colours in order. The circuit's start is added to the output string (Manual 1.6).
 unfoldable pub totalAfter : Asked → Circuit → ℕ → Total
 totalAfter (amp C r b g) c w =
     Amplitude (amplitudeAfter (c .m) (polynomial (c .gates)) C (withStart (c .start) (record { red = r; blue = b; green = g })) w)
 totalAfter (part C x y) c w =
     Readout (readoutAfter (c .m) (polynomial (c .gates)) C (x ⊞ first C (c .start)) (y ⊞ second C (c .start)) w)
 
--- "An open sum holds the number of slices worked and what exactly these add up to": the fields of the state.
+-- The fields of the state: what exactly the slices worked add up to, how many they are, and the table that slices are read from.
 unfoldable pub encodeSum : Opened → Sum
 encodeSum closed = record { total = Closed; worked = 0; table = replicate 102 0 }
 encodeSum (running o) =
     record { total = totalAfter (o .asked) (o .circuit) (o .worked); worked = o .worked; table = tableFor (o .asked) (o .circuit) }
 
--- "`(amp S n)` or `(part T n)` after the step that ends it, .. n the exponent"
+-- The answer to the step that ends a sum: `(amp S n)` or `(part T n)`, n = 3m (Manual 6.1).
 unfoldable pub ended : ℕ → Total → Answer
 ended m (Amplitude s) = Answer.Amplitude s (3 * m)
 ended m (Readout t) = Answer.Readout t (3 * m)
 ended m Closed = Answer.Ok
 
--- A sum is opened with all 2^m slices left.
+-- A sum is opened with no slice worked (Manual 5.8, 5.9).
 unfoldable pub opening : Circuit → Asked → Opened
 opening c q = running (record { asked = q; circuit = c; worked = 0 })
 
--- "works through k more slices, or all that are left if fewer"; "the sum is then closed".
+-- A step works k more slices, or all that are left if fewer; with none left the sum is closed (Manual 5.10).
 unfoldable pub stepped : Opened → ℕ → Opened
 stepped closed k = closed
 stepped (running o) k =
     cond (ltb (o .worked + k) (2 ^ o .circuit .m)) (running (record { asked = o .asked; circuit = o .circuit; worked = o .worked + k })) closed
 
--- "`(left L)` .. after a step that leaves L slices, L at least 1": 2^m less the slices worked. At the end, what all slices add up to.
+-- The answer to a step: while slices are left `(left L)`, L being 2^m less those worked; at the end what all slices add up to.
 unfoldable pub stepAnswer : Opened → ℕ → Answer
 stepAnswer closed k = Answer.Ok
 stepAnswer (running o) k =

@@ -36,7 +36,7 @@ heldBits s = record { len = length s; value = numberOfBits s % 65536 }
 
 -- ---- keywords
 
--- "Keywords are compared byte for byte with the spellings above."
+-- A keyword has to match in every byte (Manual 4.2).
 unfoldable pub readKeyword : List ℕ → ℕ → List ℕ → KeywordAt
 readKeyword l at key = cond (begins key (drop at l)) (Ends (at + length key)) NoKeyword
 
@@ -78,7 +78,7 @@ bitsFrom n v at (x ∷ xs) =
     cond (eqb x 48) (bitsFrom (n + 1) (v * 2 % 65536) (at + 1) xs)
     (cond (eqb x 49) (bitsFrom (n + 1) ((v * 2 + 1) % 65536) (at + 1) xs) (BitsRead (record { len = n; value = v }) at))
 
--- "one or more digits"
+-- A bit string has one digit at least (Manual 4.4).
 unfoldable pub oneOrMore : BitsAt → BitsAt
 oneOrMore (BitsRead b n) = cond (eqb (b .len) 0) NoBits (BitsRead b n)
 oneOrMore NoBits = NoBits
@@ -104,7 +104,7 @@ abbrev pub withBits : {A : Type 0} → A → BitsAt → (Bits → ℕ → A) →
 withBits out (BitsRead b n) k = k b n
 withBits out NoBits k = out
 
--- "Items stand one space apart": a space, and then the item.
+-- One space, and then the item (Manual 4.2).
 unfoldable pub spacedNumber : List ℕ → ℕ → NumberAt
 spacedNumber l at = afterKeyword NoNumber (readKeyword l at (bytes " ")) (readNumber l)
 

@@ -1,4 +1,4 @@
--- How the items of a line are spelled (document 01, "Bracket lines").
+-- How the items of a line are spelled (Manual 4.2 to 4.6).
 use Prim.Native.Nat.{ℕ, zero, suc, _+_, _/_, _%_}
 use Prim.Native.String.{String, [] as none, _∷_ as _then_}
 use Prim.Native.Char.{code}
@@ -36,22 +36,22 @@ unfoldable pub digits : ℕ → ℕ → List ℕ
 digits zero n = []
 digits (suc k) n = cond (ltb n 10) ((48 + n) ∷ []) (digits k (n / 10) ++ ((48 + n % 10) ∷ []))
 
--- "Numbers are in base ten without leading zeros; 0 is the digit alone." A number has no more digits than n + 1.
+-- A number in base ten, without leading zeros; 0 is one digit (Manual 4.3). It has no more than n + 1 digits.
 unfoldable pub decimal : ℕ → List ℕ
 decimal n = digits (suc n) n
 
--- "S with a minus sign where negative"
+-- A signed number: a minus sign, byte 45, in front of a negative one (Manual 6.1).
 unfoldable pub signedDecimal : ℤ → List ℕ
 signedDecimal (pos n) = decimal n
 signedDecimal (negsuc n) = 45 ∷ decimal (suc n)
 
--- "C is a colour letter."
+-- A colour is one letter, r, b or g (Manual 4.5).
 abbrev pub letter : Colour → ℕ
 letter Red = 114
 letter Blue = 98
 letter Green = 103
 
--- "Bit strings R, B, G are one or more digits 0 and 1, position 1 first."
+-- A bit string in digits 0 and 1, position 1 first (Manual 4.4).
 unfoldable pub bitDigits : BitString → List ℕ
 bitDigits [] = []
 bitDigits (b ∷ bs) = cond b 49 48 ∷ bitDigits bs
@@ -60,7 +60,7 @@ bitDigits (b ∷ bs) = cond b 49 48 ∷ bitDigits bs
 unfoldable pub spelledSpot : Spot → List ℕ
 spelledSpot p = bytes "(" ++ (letter (p .colour) ∷ (bytes " " ++ (decimal (p .position) ++ bytes ")")))
 
--- "`(ccz i j k)` positions in r, b, g. `(cz (C i) (C j))` .. `(cnot C control target)`"
+-- A gate, brackets included: a CCZ by its positions in order r, b, g, a CZ by its two spots, a CNOT by colour, control, target (Manual 5.2 to 5.4).
 unfoldable pub spelledGate : Gate → List ℕ
 spelledGate (Ccz i j k) = bytes "(ccz " ++ (decimal i ++ (bytes " " ++ (decimal j ++ (bytes " " ++ (decimal k ++ bytes ")")))))
 spelledGate (Cz p q) = bytes "(cz " ++ (spelledSpot p ++ (bytes " " ++ (spelledSpot q ++ bytes ")")))

@@ -1,4 +1,4 @@
--- What a line does to the circuit and the open sum, and what it is answered (document 01, "Bracket lines", "Where a line is turned back").
+-- What a line does to the circuit and the open sum, and what it is answered (Manual 5, 6.1, 7.9).
 use mathlib.Core.Bool.{not}
 use mathlib.Core.List.{[], _∷_}
 use Prim.Native.Nat.{ℕ, zero, suc, _^_}
@@ -23,8 +23,8 @@ pub record Turn : Type 0 where
 abbrev pub gives : Circuit → Opened → Answer → Turn
 gives c o a = record { circuit = c; opened = o; answer = a }
 
--- What a form does that no place turns back. "`(left L)` when a sum is opened", all 2^m slices; `terms` is answered with the number of terms, and
--- their lines are fetched.
+-- What a form does that no place turns back (Manual 5.1 to 5.12), and its answer: L is 2^m where a sum is opened; `terms` is answered with the
+-- number of terms, and their lines are fetched (Manual 9.3).
 unfoldable pub accepted : Circuit → Opened → Typed → Turn
 accepted c o (circuit m) = gives (newCircuit m) closed Ok
 accepted c o (gate g) = gives (withGates (g ∷ []) c) o Ok
@@ -40,11 +40,12 @@ accepted c o terms = gives c o (Terms (length (listing 16 (polynomial (c .gates)
 unfoldable pub refusalOf : Circuit → Opened → ℕ → Reading → ℕ
 refusalOf c o room r = refusalBy (not (eqb (c .m) 0)) (isRunning o) (c .m) room (length (c .gates)) r
 
--- A refusal "leaves circuit, history, start and open sum the same".
+-- A refused line leaves circuit, gates, start and open sum as they were (Manual 7.9).
 unfoldable pub turnBy : ℕ → Circuit → Opened → Typed → Turn
 turnBy zero c o t = accepted c o t
 turnBy (suc n) c o t = gives c o (Refused (suc n))
 
+-- What a line does: it is taken if no place turns it back (Manual 7.1).
 unfoldable pub turnOf : Circuit → Opened → ℕ → Reading → Turn
 turnOf c o room (typed t) = turnBy (refusalOf c o room (typed t)) c o t
 turnOf c o room (refused n) = gives c o (Refused n)
