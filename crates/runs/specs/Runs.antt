@@ -1,4 +1,4 @@
--- Runs, for demand 3 (document 01, "Runs"): a list of calls, the book that is kept of their lines and answers alone, and the claim.
+-- Runs, for demand 3 (Manual 11.1 to 11.6): a list of calls, the book that is kept of their lines and answers alone, and the claim.
 use mathlib.Core.Bool.{Bool, true, false, not, cond, _&&_, _||_}
 use mathlib.Core.List.{List, [], _∷_, _++_}
 use mathlib.Core.Path.{_≡_}
@@ -30,9 +30,9 @@ use Rattle.engine.specs.declared.Fetched.{Fetched}
 use Rattle.engine.specs.Engine.{Engine, freshEngine}
 use Rattle.engine.specs.Calls.{encode, response, Given, Answered, FetchGiven, FetchAnswered}
 
--- ---- "A run is a list of lines of any bytes, every form, refused and empty lines included, with fetches between, from a fresh engine (no
--- circuit) on a lent history of any length, each call on an answer buffer of any length."
+-- ---- a run (Manual 11.1): lines of any bytes and fetches, in any order, each call on an answer buffer of any length
 
+-- What a call is given and what it gives: `history` and `written`, the answer buffer, are those after it.
 pub record LineCall : Type 0 where
   pub line : List ℕ
   pub buffer : List ℕ
@@ -50,13 +50,14 @@ pub data Call : Type 0 where
   line : LineCall → Call
   fetch : FetchCall → Call
 
--- "Each call gets the state and history that the last one left": each keeps its promise on these.
+-- Each call gets the state and history that the call before it left, and keeps its promise on these.
 abbrev pub Kept : State → List ℕ → List Call → Type 0
 Kept s h [] = Unit {0}
 Kept s h (line c ∷ cs) =
     Answered s h (c .line) (c .buffer) (c .reply) (c .history) (c .written) × Kept (c .reply .state) (c .history) cs
 Kept s h (fetch f ∷ cs) = FetchAnswered s (f .number) (f .buffer) (f .fetched) (f .written) × Kept s h cs
 
+-- A run begins with a fresh engine, on a lent history h of any length.
 abbrev pub Run : List ℕ → List Call → Type 0
 Run h cs = Kept (encode freshEngine) h cs
 
@@ -68,7 +69,7 @@ GivenFrom e h (line c ∷ cs) =
     × GivenFrom (response e h (c .line) (length (c .buffer)) .after) (c .history) cs
 GivenFrom e h (fetch f ∷ cs) = FetchGiven e (f .number) (f .buffer) (f .fetched) (f .written) × GivenFrom e h cs
 
--- ---- "An accepted circuit is what this book holds, fed only the lines and their answers"; "At first there is none", a circuit of no positions
+-- ---- the book (Manual 11.2): the accepted circuit, by lines and answers alone; at first there is none, which is a circuit of no positions
 
 -- The answer: the bytes that the call says it wrote.
 unfoldable pub answerOf : LineCall → List ℕ
@@ -78,16 +79,16 @@ answerOf c = take (c .reply .len) (c .written)
 unfoldable pub shownBy : FetchCall → List ℕ
 shownBy f = take (f .fetched .len) (f .written)
 
--- "answered `(ok)`"
+-- Is the answer `(ok)`?
 unfoldable pub isOk : List ℕ → Bool
 isOk a = sameBytes a (bytes "(ok)")
 
--- R, B and G.
+-- R, B and G, in order.
 unfoldable pub inOrder : List BitString → Basis
 inOrder ss = record { red = getD ss 0 []; blue = getD ss 1 []; green = getD ss 2 [] }
 
--- What a form that was answered `(ok)` does to the book, by its row: "m, no gates, start all zeros"; "puts its gate at the end, a layer its gates
--- from left to right"; "takes the last k off"; "sets the start". "Anything else, refused lines included, changes nothing."
+-- What a form that was answered `(ok)` does to the book, by its row: `circuit` begins it anew, a gate or a layer puts its gates at the end, `undo`
+-- takes the last k off, `start` sets the start. Every other form leaves it as it is.
 unfoldable pub enterBy : Class → Row → Circuit → Circuit
 enterBy Creates r b = newCircuit (r .number)
 enterBy Builds r b = withGates (r .gates) b
@@ -102,12 +103,13 @@ unfoldable pub enter : Reading → Circuit → Circuit
 enter (typed t) b = enterBy (row t .class) (row t) b
 enter (refused n) b = b
 
+-- The book after a line and its answer. A line that is not answered `(ok)`, as a refused one, changes nothing.
 unfoldable pub fed : Circuit → List ℕ → List ℕ → Circuit
 fed b l a = cond (isOk a) (enter (readingOf l) b) b
 
--- ---- "take the last line `(part C X Y)` before it that was answered `(left L)`, and the book as it stood there"
+-- ---- the last sum that was opened, and the book as it was there (Manual 11.3, 11.6)
 
--- What a line asked for that was answered `(left L)`, and the book as it stood there.
+-- What a line asked for that was answered `(left L)`, and the book as it was there.
 pub record Noted : Type 0 where
   pub asked : Asked
   pub book : Circuit
@@ -124,6 +126,7 @@ unfoldable pub askedIn : Reading → List Asked
 askedIn (typed t) = row t .asked
 askedIn (refused n) = []
 
+-- A line that asks for a sum and is answered `(left L)` is the last one from then on.
 unfoldable pub noted : Circuit → List Asked → List ℕ → Last → Last
 noted b [] a p = p
 noted b (q ∷ qs) a p = cond (isLeft a) (last (record { asked = q; book = b })) p
@@ -152,9 +155,9 @@ logFrom g (c ∷ cs) = logFrom (logged g c) cs
 unfoldable pub logOf : List Call → Log
 logOf cs = logFrom emptyLog cs
 
--- ---- "the k of the accepted steps after an accepted `part` .. with no accepted `drop` before that"
+-- ---- accepted steps and drops (Manual 11.5)
 
--- A line is accepted that has an answer, and no refusal for one.
+-- A line is accepted that has an answer, and no refusal for one (Manual 6.1).
 unfoldable pub isAccepted : List ℕ → Bool
 isAccepted [] = false
 isAccepted (x ∷ a) = not (begins (bytes "(no ") (x ∷ a))
@@ -186,7 +189,8 @@ dropsIn (fetch f ∷ cs) = dropsIn cs
 unfoldable pub square : ℤ → ℤ
 square x = x *ℤ x
 
--- "n = 3m and 2^(3m) times T equals the sum of S(s)^2 over the 2^m strings s with X and Y on the other two colours, S by the book's gates"
+-- An exact readout count T (Manual 11.3): n = 3m, and 2^(3m) times T is the sum of S(s)^2 over the 2^m strings s with X and Y beside C, S being
+-- the signed sum of the gates.
 pub record Exact (m : ℕ) (gates : List Gate) (C : Colour) (X Y : BitString) (t n : ℕ) : Type 0 where
   pub exponent : n ≡ 3 * m
   pub squares : pos (2 ^ (3 * m)) *ℤ pos t ≡ sum m (λ w. square (signedSum m gates (join C w X Y)))
@@ -209,13 +213,14 @@ pub record Opening (calls : List Call) : Type 0 where
   pub latest : logOf calls .opened ≡ last (record { asked = part colour x y; book = book })
   pub some : 1 ≤ book .m
 
+-- The answer is `(part T n)`, for some T and n.
 pub record IsReadout (answer : List ℕ) : Type 0 where
   pub t : ℕ
   pub n : ℕ
   pub is : answer ≡ bytesOf (Answer.Readout t n)
 
--- The amplitude of the last sum opened, which was an `amp`: the sum carried gate by gate over the gates that the book then held, at the output
--- string with the starting ones added, whichever colour was sliced.
+-- The amplitude of the last sum opened, which was an `amp` (Manual 11.6): the signed sum of the gates that the book then held, at the output string
+-- with the book's start added, whichever colour was sliced.
 pub record Amplitude (calls : List Call) (s : ℤ) (n : ℕ) : Type 0 where
   pub colour : Colour
   pub output : Basis
@@ -224,6 +229,7 @@ pub record Amplitude (calls : List Call) (s : ℤ) (n : ℕ) : Type 0 where
   pub exponent : n ≡ 3 * book .m
   pub sum : s ≡ signedSum (book .m) (book .gates) (withStart (book .start) output)
 
+-- The claim about the whole run (Manual 11.3 to 11.6).
 pub record SoundRun (calls : List Call) : Type 0 where
   -- every `(part T n)` has an accepted `part` before it, and no other sum was opened since
   pub opened :
@@ -233,11 +239,11 @@ pub record SoundRun (calls : List Call) : Type 0 where
   pub fetched :
       (before : List Call) (f : FetchCall) (after : List Call) (t n : ℕ) → calls ≡ before ++ (fetch f ∷ after) →
       shownBy f ≡ bytesOf (Answer.Readout t n) → ⊥
-  -- every readout count is exact
+  -- every readout count is exact, where the book's start was all zeros (Manual 11.3)
   pub exact :
       (m : ℕ) (gates : List Gate) (C : Colour) (X Y : BitString) (t n : ℕ) →
       Answers calls (Answer.Readout t n) (part C X Y) (record { m = m; gates = gates; start = allZeros m }) → Exact m gates C X Y t n
-  -- the counts of all pairs add up to 2^(3m)
+  -- the counts of all pairs X, Y add up to 2^(3m) (Manual 11.4)
   pub total :
       (m : ℕ) (gates : List Gate) (C : Colour) (t n : BitString → BitString → ℕ) →
       ((X Y : BitString) → length X ≡ m → length Y ≡ m →
@@ -247,8 +253,8 @@ pub record SoundRun (calls : List Call) : Type 0 where
   pub entered :
       (before : List Call) (p : LineCall) (after : List Call) (C : Colour) (x y : BitString) → calls ≡ before ++ (line p ∷ after) →
       readingOf (p .line) ≡ typed (opens (part C x y)) → isLeft (answerOf p) ≡ true → 1 ≤ logOf before .book .m
-  -- "If the k of the accepted steps after an accepted `part` reach a total of 2^m or more, with no accepted `drop` before that, the step that
-  -- first reaches it is answered `(part T n)`." The `part` is p, the step is c, and m is that of the book at p.
+  -- after an accepted `part`, with no accepted `drop` since, the step with which the k of the accepted steps first come to 2^m or more is answered
+  -- `(part T n)` (Manual 11.5). The `part` is p, the step is c, and m is that of the book at p.
   pub ends :
       (before : List Call) (p : LineCall) (between : List Call) (c : LineCall) (after : List Call) (C : Colour) (x y : BitString) (k : ℕ) →
       calls ≡ before ++ (line p ∷ (between ++ (line c ∷ after))) →
@@ -256,7 +262,7 @@ pub record SoundRun (calls : List Call) : Type 0 where
       dropsIn between ≡ false → stepsIn between < 2 ^ logOf before .book .m →
       readingOf (c .line) ≡ typed (step k) → isAccepted (answerOf c) ≡ true → 2 ^ logOf before .book .m ≤ stepsIn between + k →
       IsReadout (answerOf c)
-  -- demand 2 at the call: every `(amp S n)` is the signed sum of the book's gates at the output string with the start added
+  -- demand 2 at the call: every `(amp S n)` is the signed sum of the book's gates at the output string with the start added (Manual 11.6)
   pub amplitudes :
       (before : List Call) (c : LineCall) (after : List Call) (s : ℤ) (n : ℕ) → calls ≡ before ++ (line c ∷ after) →
       answerOf c ≡ bytesOf (Answer.Amplitude s n) → Amplitude before s n

@@ -1,6 +1,6 @@
--- What the program holds of a session, and where it ends. The contracts of the system's `read` and `write` do not tell which bytes they move. So
--- that they move those that they report, and that the program makes these calls, is read off the code and tested. When such a call is made again,
--- and when a read or a write is over, is what `streams` proves.
+-- What the program holds of a session, and where it ends (Manual 10.1, 10.2). The contracts of the system's `read` and `write` do not tell which
+-- bytes they move. So that they move those that they report, and that the program makes these calls, is read off the code and tested. When such a
+-- call is made again, and when a read or a write is over, is what `streams` proves.
 use mathlib.Core.Bool.{true, false}
 use mathlib.Core.List.{List, [], _∷_, _++_, flatten}
 use mathlib.Core.Path.{_≡_}

@@ -1,4 +1,4 @@
--- The worked session at the end of document 01's "Known sums": what is typed, and what is answered.
+-- The worked session of README, "A session": what is typed, and what is answered.
 use mathlib.Core.List.{List, [], _∷_}
 use Prim.Native.Nat.{ℕ}
 use Rattle.text.specs.Spelling.{bytes}
