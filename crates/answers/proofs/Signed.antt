@@ -37,7 +37,7 @@ minus-one-less-fits s f h =
 pub minus-one-less-held : (s : ℤ) → SFits w64 s → ltZ s (pos 0) ≡ true → toZ w64 (ofZ w64 (negsuc 0 -ℤ s)) ≡ pos (natAbs s - 1)
 minus-one-less-held s f h = toZ-ofZ (minus-one-less-fits s f h) ∙ minus-one-less s h
 
--- ---- "S with a minus sign where negative"
+-- ---- a minus sign in front of a negative number (Manual 6.1)
 
 pub signed-negative : (s : ℤ) → ltZ s (pos 0) ≡ true → signedDecimal s ≡ 45 ∷ decimal (natAbs s)
 unfolding signedDecimal

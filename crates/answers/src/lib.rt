@@ -102,7 +102,7 @@ fn push_signed(text: Text, s: i64) -> Text
     push_number(text, n)
 }
 
-// "Items stand one space apart."
+// A space, and then the number (Manual 4.2).
 fn push_spaced(text: Text, n: u64) -> Text
     requires { ⌜ text .len + (length (decimal n) + 1) ≤ 96 ⌝ }
     ensures { λ r. ⌜ r ≡ joined text (bytes " " ++ decimal n) ⌝ }

@@ -1,4 +1,4 @@
--- "every term once" and nothing else: a listing has a term of the polynomial once and any other not at all.
+-- Every term once and nothing else (Manual 6.2): a listing has a term of the polynomial once and any other not at all.
 use mathlib.Core.Path.{_≡_, refl, sym, _∙_, ap, ap₂}
 use mathlib.Core.Bool.{Bool, true, false, not, cond, _&&_, false≢true}
 use mathlib.Core.List.{List, [], _∷_, _++_}

@@ -55,7 +55,7 @@ module _ (e : Engine) (h line : List ℕ) where
       go false true some = (refl, refl, refl)
       go false false some = answering-kept some
 
--- Refusals are numbered up to 13, as in document 01's table; 0 is none.
+-- Refusals are numbered up to 13 (Manual 7.1); 0 is none.
 pub refusal-numbered : (e : Engine) (h line : List ℕ) (room : ℕ) → response e h line room .refusal ≤ 13
 unfolding response skipped tooShort answering
 refusal-numbered e h line room = go (eqb (length line) 0) (ltb room 64)

@@ -40,13 +40,13 @@ spelledTerm h = spelledGate (gateOfTerm (h .red) (h .blue) (h .green))
 
 pub record TermsListed (e : Engine) (answer : List ℕ) (after : Engine) : Type 0 where
   pub kept : (after .circuit ≡ e .circuit) × (after .opened ≡ e .opened)
-  -- "`(terms N)` and then N lines"
+  -- `(terms N)` and then N lines (Manual 6.2)
   pub count : answer ≡ bytesOf (Answer.Terms (length (termsIn (e .circuit))))
   pub line : (n room : ℕ) → 64 ≤ room → n < length (termsIn (e .circuit)) → fetchedBytes after (n + 1) room ≡ spelledTerm (getD (termsIn (e .circuit)) n (term 0 0 0))
-  -- "a number with no line, 0 included, gives no bytes"
+  -- no bytes for 0, nor for a number above N (Manual 9.3)
   pub before : (room : ℕ) → fetchedBytes after 0 room ≡ []
   pub past : (n room : ℕ) → length (termsIn (e .circuit)) < n → fetchedBytes after n room ≡ []
-  -- "every term once"
+  -- every term once, and nothing else (Manual 6.2)
   pub once : (h : Term) → occurrences h (termsIn (e .circuit)) ≡ cond (polynomial (e .circuit .gates) h) 1 0
 
 -- ---- the lines of a listing

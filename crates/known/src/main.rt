@@ -1,4 +1,4 @@
-// Every known sum, every edge and the worked session of document 01, asked of the engine: a row for each line, what was asked and the answer.
+// Every known sum and edge (Manual 14) and the worked session (README), asked of the engine: a row for each line, what was asked and the answer.
 ghost use mathlib.Core.Path.{_≡_};
 ghost use lib.ListN.{length};
 use engine::State;
@@ -66,7 +66,7 @@ fn ask_all(state: State, history: &mut [u32], text: &[u8]) -> State {
     }
 }
 
-// Document 01's "Known sums": no gates; one CCZ, and its readouts with red unread; the CCZ twice; one CZ; a CCZ and then a CNOT; a CNOT and then a CCZ.
+// Known sums (Manual 14): no gates; one CCZ, and its readouts with red unread; the CCZ twice; one CZ; a CCZ and then a CNOT; a CNOT and then a CCZ.
 fn sums(state: State, history: &mut [u32]) -> State {
     ask_all(
         state,
@@ -135,7 +135,7 @@ fn edges(state: State, history: &mut [u32]) -> State {
     buffer_edges(layers, history)
 }
 
-// The listing at the end of document 01's "Known sums".
+// The worked session (README, "A session").
 fn worked(state: State, history: &mut [u32]) -> State {
     ask_all(
         state,

@@ -84,7 +84,7 @@ none-read : readGate [] ≡ NoGate
 unfolding readGate readKeyword begins
 none-read = refl
 
--- "each as a part of the line itself, brackets included"
+-- A gate's own part of the line is its spelling, brackets included (Manual 4.6).
 pub gate-part : (g : Gate) (rest : List ℕ) → gatePart (spelledGate g ++ rest) ≡ spelledGate g
 unfolding gatePart gateEnd
 gate-part g rest = rw (gate-read g rest) (take-append-seam (spelledGate g) rest)

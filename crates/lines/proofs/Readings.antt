@@ -1,5 +1,5 @@
 -- What a line is read as, by its spelling alone: it is read as a form exactly if it is the spelling of that form, and refused by 2, 3, 4 and 5
--- exactly as document 01's table says. What the code's reader holds is what is held of it.
+-- exactly as Manual 7.3 and 7.4 say. What the code's reader holds is what is held of it.
 use Prim.Native.Nat.{ℕ, _≤_, _<_}
 use mathlib.Core.Path.{_≡_, refl, ap, sym, _∙_}
 use mathlib.Core.Logic.{_⊎_, inl, inr, _↔_}

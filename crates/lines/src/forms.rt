@@ -145,7 +145,7 @@ pub(crate) fn gate_line(line: &[u8]) -> Form
     ended(line, next, form_of_gate(gate))
 }
 
-// What a layer of n gates is, closed at the line's end or not. "The lowest number in a place wins": 4 before 5.
+// What a layer of n gates is, closed at the line's end or not. 4 is tried before 5 (Manual 7.1).
 fn layer_form(unclosed: bool, twice: bool, n: usize) -> Form
     ensures { λ r. ⌜ r ≡ cond unclosed (Form.Refused 4) (cond twice (Form.Refused 5) (Form.Layer n)) ⌝ }
 {
@@ -158,7 +158,7 @@ fn layer_form(unclosed: bool, twice: bool, n: usize) -> Form
     Form::Layer(n)
 }
 
-// "What follows that gate is read from the middle of the line on."
+// What follows a gate is read from the middle of the line on (Manual 4.6).
 pub(crate) fn layer(line: &[u8], a: usize) -> Form
     ensures { λ r. ⌜ r ≡ specs.layerFrom 0 0 false (drop a (now (line .entry))) ⌝ }
 {

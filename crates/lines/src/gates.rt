@@ -126,7 +126,7 @@ pub fn first_gate(line: &[u8]) -> GateAt
     GateAt::Missing
 }
 
-// "each as a part of the line itself, brackets included"; no bytes where there is no gate.
+// The gate's own part of the line, brackets included (Manual 4.6); no bytes where there is no gate.
 pub fn gate_part(line: &[u8]) -> &[u8]
     ensures { λ r. ⌜ now r ≡ gatePart (now (line .entry)) ⌝ }
 {

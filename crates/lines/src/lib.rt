@@ -1,4 +1,4 @@
-// A line read as a form: refusals 2 to 5 of document 01.
+// A line read as a form: refusals 2 to 5 (Manual 7.3, 7.4).
 ghost use mathlib.Core.List.{[], _∷_};
 ghost use mathlib.Core.Path.{_≡_};
 ghost use Rattle.text.specs.Reading.{readKeyword};
@@ -60,7 +60,7 @@ pub enum GateAt {
     Missing,
 }
 
-// "digits, a to z, ( ) and space"
+// Digits, a to z, brackets and space (Manual 7.3).
 fn allowed(b: u8) -> bool
     ensures { λ r. ⌜ r ≡ isAllowed b ⌝ }
 {
@@ -88,7 +88,7 @@ fn read_byte(line: &[u8], at: usize, b: u8) -> KeywordAt
     read_keyword(line, at, &[b])
 }
 
-// "Keywords are compared byte for byte with the spellings above." First those that build a circuit, but for its gates.
+// Keywords have to match in every byte (Manual 4.2). First those that build a circuit, but for its gates.
 fn shape(line: &[u8]) -> Form
     ensures { λ r. ⌜ r ≡ shapeOf (now (line .entry)) ⌝ }
 {
@@ -136,7 +136,7 @@ fn shape_of_work(line: &[u8]) -> Form
     forms::gate_line(line)
 }
 
-// The place Line of document 01, and then the place Form: what is held of the line as it was typed.
+// The place Line, and then the place Form (Manual 7.1): what is held of the line as it was typed.
 pub fn read(line: &[u8]) -> Form
     ensures { λ r. ⌜ r ≡ heldReading (readingOf (now (line .entry))) ⌝ }
 {

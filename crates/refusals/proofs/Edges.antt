@@ -1,4 +1,4 @@
--- The edges of the ranges of document 01, computed: the last number taken and the first refused by 9, on both sides.
+-- The edges of the ranges (Manual 5, 14), computed: the last number taken and the first refused by 9, on both sides.
 use Prim.Native.Nat.{ℕ}
 use mathlib.Core.Path.{_≡_, refl}
 use mathlib.Core.List.{List, [], _∷_, map}

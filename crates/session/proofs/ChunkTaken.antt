@@ -166,7 +166,7 @@ chunk-followed input chunk r history₀ out₀ f₀ from s pending history out f
 
 -- ---- the end of the input
 
--- "a last line without one counts too"
+-- The bytes after the last line feed are a line too (Manual 4.1).
 pub input-ended : (input : List ℕ) (r : Reading) {s : Session} {pending : Pending} (history out : List ℕ) {history' out' : List ℕ} → Follows input r history out →
     ((p : Progress) (line : List ℕ) → At p (r .session) history out → pending ≡ pendingOf line → At (withLine p line) s history' out') → pending ≡ r .pending →
     At (sessionOf input) s history' out'

@@ -23,7 +23,7 @@ struct Reading {
     left: u64,
 }
 
-// "`session` lends 4,096 places."
+// The history that is lent has 4,096 places (Manual 8.1).
 fn history_places() -> [u32; 4096]
     ensures { λ r. ⌜ r ≡ replicate 4096 0 ⌝ }
 {
@@ -61,7 +61,7 @@ fn take_chunk(reading: Reading, history: &mut [u32], out: &mut [u8], chunk: &[u8
     }
 }
 
-// The end of the input: "a last line without one counts too".
+// The end of the input: bytes after the last line feed are a line too (Manual 4.1).
 fn take_last(reading: Reading, history: &mut [u32], out: &mut [u8]) -> Session
     ensures { λ r. ⌜ ((input : List ℕ) → Follows input reading (now (history .entry)) (now (out .entry)) →
         At (sessionOf input) r (now (history .exit)) (now (out .exit))) ⌝ }

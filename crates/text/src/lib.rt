@@ -174,7 +174,7 @@ pub fn read_bits(line: &[u8], at: usize) -> BitsAt
     some_bits(len, value, i)
 }
 
-// "Items stand one space apart": a space, and then the number.
+// A space, and then the number (Manual 4.2).
 pub fn spaced_number(line: &[u8], at: usize) -> NumberAt
     ensures { λ r. ⌜ r ≡ spacedNumber (now (line .entry)) at ⌝ }
 {

@@ -1,4 +1,4 @@
--- The definitions themselves, computed on what is typed, give document 01's worked session: an example for whoever reads them.
+-- The definitions themselves, computed on what is typed, give the worked session (README, "A session"): an example for whoever reads them.
 use mathlib.Core.Path.{_≡_, refl}
 use Rattle.gf2.specs.Strings.{_⊕_, _⊞_, dot, bit, zeros}
 use Rattle.gf2.specs.Sums.{sum, sumBelow, parity, sgn}

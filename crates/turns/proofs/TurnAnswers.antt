@@ -42,7 +42,7 @@ unfolding refusedIf
 refused-if-most n e true h = h
 refused-if-most n e false h = omega arith
 
--- "A refused line gets one number from document 01's table".
+-- The number of a refusal is at most 13 (Manual 7.1); 0 is none.
 pub refusal-most : (c : Circuit) (o : Opened) (room : ℕ) (l : List ℕ) → refusalOf c o room (readingOf l) ≤ 13
 unfolding refusalOf refusalBy rowRefusal momentRefusal operandRefusal historyRefusal
 refusal-most c o room l = go (readingOf l) refl
