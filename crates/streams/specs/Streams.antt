@@ -1,4 +1,4 @@
--- What is made of the answer of a call, and of the error number right after it.
+-- What is made of the answer of a call, and of the error number right after it; when a read or a write is over (Manual 10.2).
 use mathlib.Core.Bool.{Bool, true, false, cond, _&&_, _||_}
 use mathlib.Core.Path.{_≡_}
 use Prim.Native.Nat.{ℕ, _+_, _-_, _^_, _≤_}
