@@ -1,4 +1,4 @@
--- Where a session stands: what waits in the output buffer of what was said, with the engine's state and history.
+-- Where a session stands (Manual 10.1): what waits in the output buffer of what was said, with the engine's state and history.
 use mathlib.Core.List.{List, _++_}
 use mathlib.Core.Path.{_≡_}
 use Prim.Native.Nat.{ℕ, _≤_}
