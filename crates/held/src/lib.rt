@@ -6,6 +6,7 @@ ghost use Rattle.circuit.specs.Sum.{Basis, areGates};
 ghost use Rattle.held.specs.Circuit.{Circuit, newCircuit, withoutLast, withNewStart};
 ghost use Rattle.held.specs.Memory.{numbersOf, encodeCircuit, Stored, withGate, withCode};
 use circuit::Gate;
+use circuit::polynomial::WORDS;
 
 // The positions of the largest circuit.
 const MOST_POSITIONS: usize = 16;
@@ -23,7 +24,7 @@ pub struct Held {
     // How many gates the history holds.
     pub count: usize,
     pub start: Numbers,
-    pub polynomial: [u32; 289],
+    pub polynomial: [u32; WORDS],
 }
 
 // A circuit with no gates, its start all zeros.

@@ -13,6 +13,7 @@ ghost use Rattle.sums.specs.Soundness.{SoundSum, SoundOpened};
 use answers::Answer;
 use circuit::Colour;
 use held::Held;
+use slices::table::TABLE;
 
 // What the slices worked add up to, by what the sum was opened for.
 pub enum Total {
@@ -27,7 +28,7 @@ pub struct Sum {
     // How many slices are worked.
     pub worked: usize,
     // What the slices are read from, made when the sum was opened.
-    pub table: [u64; 102],
+    pub table: [u64; TABLE],
 }
 
 // What a step leaves, and its answer.
@@ -42,7 +43,7 @@ pub fn none() -> Sum
     Sum {
         total: Total::Closed,
         worked: 0,
-        table: [0u64; 102],
+        table: [0u64; TABLE],
     }
 }
 
@@ -65,7 +66,7 @@ pub fn slice_count(m: usize) -> usize
 }
 
 // The table of the circuit's polynomial with an output string, the start's ones added.
-fn table_of(held: Held, colour: Colour, r: u32, b: u32, g: u32) -> [u64; 102]
+fn table_of(held: Held, colour: Colour, r: u32, b: u32, g: u32) -> [u64; TABLE]
     ensures { λ t. ⌜ ((c : Circuit) (q : Asked) → held ≡ encodeCircuit c → SoundCircuit c → colour ≡ sliced q →
         output (c .m) q ≡ record { red = highFirst (c .m) r; blue = highFirst (c .m) b; green = highFirst (c .m) g } → t ≡ tableFor q c) ⌝ }
 {
@@ -94,7 +95,7 @@ pub fn open_amplitude(held: Held, colour: Colour, r: u32, b: u32, g: u32) -> Sum
 }
 
 // The table of a readout: zeros stand for the unread colour.
-fn table_beside(held: Held, colour: Colour, x: u32, y: u32) -> [u64; 102]
+fn table_beside(held: Held, colour: Colour, x: u32, y: u32) -> [u64; TABLE]
     ensures { λ t. ⌜ ((c : Circuit) → held ≡ encodeCircuit c → SoundCircuit c →
         t ≡ tableFor (part colour (highFirst (c .m) x) (highFirst (c .m) y)) c) ⌝ }
 {
@@ -118,7 +119,7 @@ pub fn open_readout(held: Held, colour: Colour, x: u32, y: u32) -> Sum
 }
 
 // The total with `count` more slices, from slice `from` on.
-fn with_slices(total: Total, table: [u64; 102], m: usize, from: usize, count: usize) -> Total
+fn with_slices(total: Total, table: [u64; TABLE], m: usize, from: usize, count: usize) -> Total
     ensures { λ t. ⌜ ((o : OpenSum) → SoundSum m o → from ≡ o .worked → total ≡ totalAfter (o .asked) (o .circuit) from → table ≡ tableFor (o .asked) (o .circuit) →
         from + count ≤ 2 ^ m → t ≡ totalAfter (o .asked) (o .circuit) (from + count)) ⌝ }
 {
