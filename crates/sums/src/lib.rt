@@ -173,8 +173,9 @@ fn step_open(sum: Sum, m: usize, k: usize) -> Stepped
         };
     }
     let whole = with_slices(total, table, m, from, left);
+    let closed = none();
     Stepped {
-        sum: none(),
+        sum: closed,
         answer: answer_of(whole, m),
     }
 }

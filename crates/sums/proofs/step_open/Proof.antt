@@ -17,11 +17,11 @@ sub-left c = search needs
 with-slices-requires : tie.Need-with-slices-requires
 with-slices-requires c κs = search needs
 
-add-t13 : tie.Need-add-t13
-add-t13 c = search needs
+add-t14 : tie.Need-add-t14
+add-t14 c = search needs
 
-sub-t15 : tie.Need-sub-t15
-sub-t15 c = search needs
+sub-t16 : tie.Need-sub-t16
+sub-t16 c = search needs
 
 returns-2 : tie.Need-returns-2
 returns-2 c o s is =
@@ -60,8 +60,8 @@ step-open-spec =
     returns
     sub-left
     with-slices-requires
-    add-t13
-    sub-t15
+    add-t14
+    sub-t16
     returns-2
     with-slices-requires-2
     none-requires
