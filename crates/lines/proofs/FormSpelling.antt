@@ -16,15 +16,15 @@ use Rattle.text.specs.Reading.{capped, heldBits, readNumber, spacedBits, withNu
 use Rattle.text.specs.declared.Bits.{Bits}
 use Rattle.text.proofs.ItemsSpelled.{keyword-then, number-then, spaced-bits-then}
 use Rattle.text.proofs.ItemCases.{keyword-cases, number-cases, spaced-bits-cases}
+use Rattle.gates.specs.declared.GateAt.{GateAt}
+use Rattle.gates.specs.declared.GateAt.the-variants.{Read as GateRead, Missing as NoGate}
+use Rattle.gates.specs.Gates.{heldGate, withGate, readGate}
+use Rattle.gates.proofs.GateSpelling.{gate-read, gate-stands}
 use Rattle.lines.specs.declared.Form.{Form}
 use Rattle.lines.specs.declared.Form.the-variants as Form
-use Rattle.lines.specs.declared.GateAt.{GateAt}
-use Rattle.lines.specs.declared.GateAt.the-variants.{Read as GateRead, Missing as NoGate}
 use Rattle.lines.specs.Spelling.{spelledBits, someBits, allSome, colourTwice}
-use Rattle.lines.specs.Held.{heldGate, gateForm}
-use Rattle.lines.specs.Gates.{withGate, readGate}
+use Rattle.lines.specs.Held.{gateForm}
 use Rattle.lines.specs.Forms.{ended, closed, gateLine}
-use Rattle.lines.proofs.GateSpelling.{gate-read, gate-stands}
 use Rattle.lines.proofs.LayerSpelling.{held-twice}
 
 -- A number and the closing bracket.

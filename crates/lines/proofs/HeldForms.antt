@@ -8,10 +8,11 @@ use Rattle.circuit.specs.declared.Spot.{Spot}
 use Rattle.circuit.specs.declared.Gate.{Gate}
 use Rattle.circuit.specs.declared.Gate.the-variants.{Ccz, Cz, Cnot}
 use Rattle.text.specs.Reading.{capped, heldBits}
+use Rattle.gates.specs.Gates.{heldGate}
 use Rattle.lines.specs.declared.Form.{Form}
 use Rattle.lines.specs.declared.Form.the-variants as Form
 use Rattle.lines.specs.Typed.{amp, part, Typed, circuit, gate, layer, undo, start, opens, step, drop, terms}
-use Rattle.lines.specs.Held.{heldGate, gateForm, held}
+use Rattle.lines.specs.Held.{gateForm, held}
 
 abbrev pub heldSpot : Spot → Spot
 heldSpot p = record { colour = p .colour; position = capped (p .position) }

@@ -5,12 +5,13 @@ use mathlib.Core.List.{List, map}
 use lib.ListN.{length, length-map}
 use Rattle.gf2.proofs.Impossible.{never}
 use Rattle.circuit.specs.declared.Gate.{Gate}
+use Rattle.gates.specs.Gates.{heldGate, layerGates, gatesMet}
+use Rattle.gates.proofs.LayerWalk.{layer-begins, walk-all}
 use Rattle.lines.specs.declared.Form.the-variants as Form
 use Rattle.lines.specs.Typed.{Typed, layer}
 use Rattle.lines.specs.Spelling.{Reading, typed, refused}
 use Rattle.lines.specs.Readings.{readingOf}
-use Rattle.lines.specs.Held.{heldGate, heldReading}
-use Rattle.lines.specs.Gates.{layerGates}
+use Rattle.lines.specs.Held.{heldReading}
 use Rattle.lines.proofs.FormReading.{layer-gates}
 use Rattle.lines.proofs.Readings.{form-read}
 use Rattle.lines.proofs.HeldForms.{HeldAs, layers, held-as}
@@ -33,3 +34,7 @@ pub layer-count : (l : List ℕ) (n : ℕ) → heldReading (readingOf l) ≡ For
 layer-count l n h =
     let r = held-layer (readingOf l) n h in
     ap length (handed-on l (r .0) (r .1)) ∙ length-map (r .0) heldGate ∙ sym (r .2)
+
+-- The gates of a layer line are what following the places from 6 on meets, in as many steps as the reader says.
+pub layer-walked : (l : List ℕ) (n : ℕ) → heldReading (readingOf l) ≡ Form.Layer n → gatesMet n l 6 ≡ layerGates l
+layer-walked l n h = rw (sym (layer-count l n h)) (walk-all l (layerGates l) 6 (layer-begins l))

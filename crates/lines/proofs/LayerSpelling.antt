@@ -13,24 +13,18 @@ use borrow.Author.Tests.{eqb-true}
 use Rattle.circuit.specs.declared.Gate.{Gate}
 use Rattle.circuit.specs.declared.Gate.the-variants.{Ccz, Cz, Cnot}
 use Rattle.text.specs.Spelling.{bytes, spelledGate}
+use Rattle.gates.specs.declared.GateAt.{GateAt}
+use Rattle.gates.specs.declared.GateAt.the-variants.{Read as GateRead, Missing as NoGate}
+use Rattle.gates.specs.Gates.{heldGate, withGate, readGate, gatesFrom}
+use Rattle.gates.proofs.GateSpelling.{gate-read, GateStands, gate-stands}
+use Rattle.gates.proofs.LayerWalk.{gates-skip}
 use Rattle.lines.specs.declared.Form.{Form}
 use Rattle.lines.specs.declared.Form.the-variants as Form
-use Rattle.lines.specs.declared.GateAt.{GateAt}
-use Rattle.lines.specs.declared.GateAt.the-variants.{Read as GateRead, Missing as NoGate}
 use Rattle.lines.specs.Spelling.{spelledGates, colourTwice, anyColourTwice}
-use Rattle.lines.specs.Held.{heldGate}
-use Rattle.lines.specs.Gates.{withGate, readGate, gatesFrom}
 use Rattle.lines.specs.Forms.{layerFrom}
 use Rattle.lines.proofs.Scanning.{layer-skip}
-use Rattle.lines.proofs.GateSpelling.{gate-read, GateStands, gate-stands}
 
 -- ---- what is spelled is read
-
-pub gates-skip : (skip : ℕ) (l : List ℕ) → gatesFrom skip l ≡ gatesFrom 0 (drop skip l)
-unfolding gatesFrom
-gates-skip zero l = refl
-gates-skip (suc skip) [] = refl
-gates-skip (suc skip) (x ∷ xs) = gates-skip skip xs
 
 -- What is held of a gate has its colours.
 pub held-twice : (g : Gate) → colourTwice (heldGate g) ≡ colourTwice g

@@ -1,5 +1,4 @@
 pub mod Scanning
-pub mod GateSpelling
 pub mod LayerSpelling
 pub mod FormSpelling
 pub mod AllowedSpelling
@@ -8,4 +7,3 @@ pub mod OneSpelling
 pub mod Readings
 pub mod HeldForms
 pub mod LayerLine
-pub mod LayerWalk

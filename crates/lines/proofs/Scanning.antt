@@ -6,25 +6,16 @@ use mathlib.Core.List.{List, [], _∷_}
 use native.Mathlib.Numerals.{add-one}
 use native.Mathlib.Omega.{arith}
 use lib.Dec.{eqb}
-use lib.ListN.{length, getD, take, drop, drop-of-length-le, length-drop}
-use lib.Seq.{drop-cons, drop-drop, take-all}
+use lib.ListN.{length, getD, drop, drop-of-length-le, length-drop}
+use lib.Seq.{drop-cons, drop-drop}
 use borrow.Author.Tests.{eq-eqb, ne-eqb, eqb-true, eqb-false}
 use Rattle.circuit.specs.declared.Gate.{Gate}
+use Rattle.gates.specs.Gates.{readGate}
+use Rattle.gates.specs.declared.GateAt.the-variants.{Read as GateRead, Missing as NoGate}
 use Rattle.lines.specs.Spelling.{isAllowed, allAllowed, colourTwice}
-use Rattle.lines.specs.Gates.{readGate}
 use Rattle.lines.specs.Forms.{layerFrom}
-use Rattle.lines.specs.declared.GateAt.the-variants.{Read as GateRead, Missing as NoGate}
 use Rattle.lines.specs.declared.Form.{Form}
 use Rattle.lines.specs.declared.Form.the-variants as Form
-use Rattle.lines.proofs.GateSpelling.{gate-fits}
-
--- What `&line[j..]` holds.
-pub part-all : (l : List ℕ) (j : ℕ) → take (length l - j) (drop j l) ≡ drop j l
-part-all l j = let h : length (drop j l) ≤ length l - j = omega (arith, length-drop j l) in take-all (length l - j) (drop j l) h
-
--- A gate read from a place on ends within the line.
-pub gate-fits-from : (l : List ℕ) (j : ℕ) (g : Gate) (n : ℕ) → readGate (drop j l) ≡ GateRead g n → n ≤ length l - j
-gate-fits-from l j g n h = omega (arith, gate-fits (drop j l) g n h, length-drop j l)
 
 -- ---- the bytes allowed in a line
 

@@ -6,13 +6,13 @@ use lib.Dec.{eqb}
 use lib.ListN.{length, drop}
 use Rattle.text.specs.Spelling.{bytes}
 use Rattle.text.specs.Reading.{readKeyword, readNumber, readColour, spacedBits, afterKeyword, withNumber, withColour, withBits}
+use Rattle.gates.specs.Gates.{withGate, readGate}
 use Rattle.lines.specs.declared.forms.Numbered.{Numbered}
 use Rattle.lines.specs.declared.forms.Numbered.the-variants.{Circuit, Undo, Step}
 use Rattle.lines.specs.declared.Form.{Form}
 use Rattle.lines.specs.declared.Form.the-variants as Form
 use Rattle.lines.specs.Spelling.{colourTwice}
 use Rattle.lines.specs.Held.{gateForm}
-use Rattle.lines.specs.Gates.{withGate, readGate}
 
 -- The line ends at a place.
 unfoldable pub ended : List ℕ → ℕ → Form → Form

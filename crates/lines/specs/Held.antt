@@ -3,16 +3,11 @@ use lib.ListN.{length}
 use Rattle.circuit.specs.declared.Gate.{Gate}
 use Rattle.circuit.specs.declared.Gate.the-variants.{Ccz, Cz, Cnot}
 use Rattle.text.specs.Reading.{capped, heldBits}
+use Rattle.gates.specs.Gates.{heldGate}
 use Rattle.lines.specs.declared.Form.{Form}
 use Rattle.lines.specs.declared.Form.the-variants as Form
 use Rattle.lines.specs.Typed.{amp, part, Typed, circuit, gate, layer, undo, start, opens, step, drop, terms}
 use Rattle.lines.specs.Spelling.{Reading, typed, refused}
-
-unfoldable pub heldGate : Gate → Gate
-heldGate (Ccz i j k) = Ccz (capped i) (capped j) (capped k)
-heldGate (Cz p q) =
-    Cz (record { colour = p .colour; position = capped (p .position) }) (record { colour = q .colour; position = capped (q .position) })
-heldGate (Cnot C c t) = Cnot C (capped c) (capped t)
 
 unfoldable pub gateForm : Gate → Form
 gateForm (Ccz i j k) = Form.Ccz i j k

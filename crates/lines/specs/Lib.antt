@@ -2,5 +2,4 @@ pub mod Typed
 pub mod Spelling
 pub mod Readings
 pub mod Held
-pub mod Gates
 pub mod Forms

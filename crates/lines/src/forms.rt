@@ -6,16 +6,16 @@ ghost use Rattle.lines.specs.Held.{gateForm};
 ghost use Rattle.lines.specs.Spelling.{colourTwice};
 ghost use Rattle.lines.specs.Forms as specs;
 use crate::Form;
-use crate::GateAt;
-use crate::gates::first_gate;
-use crate::read_byte;
 use circuit::Gate;
 use circuit::same_colour;
+use gates::GateAt;
+use gates::first_gate;
 use text::BitsAt;
 use text::ColourAt;
 use text::KeywordAt;
 use text::NumberAt;
 use text::read_colour;
+use text::read_keyword;
 use text::read_number;
 use text::spaced_bits;
 
@@ -38,7 +38,7 @@ pub(crate) fn ended(line: &[u8], at: usize, form: Form) -> Form
 fn closed(line: &[u8], at: usize, form: Form) -> Form
     ensures { λ r. ⌜ r ≡ specs.closed (now (line .entry)) at form ⌝ }
 {
-    let KeywordAt::Ends(e) = read_byte(line, at, b')') else {
+    let KeywordAt::Ends(e) = read_keyword(line, at, b")") else {
         return Form::Refused(4);
     };
     ended(line, e, form)

@@ -1,21 +1,17 @@
 // A line read as a form: refusals 2 to 5 (Manual 7.3, 7.4).
-ghost use mathlib.Core.List.{[], _∷_};
 ghost use mathlib.Core.Path.{_≡_};
-ghost use Rattle.text.specs.Reading.{readKeyword};
 ghost use Rattle.lines.specs.Forms.{workShape, stringsShape, shapeOf};
 ghost use Rattle.lines.specs.Held.{heldReading};
 ghost use Rattle.lines.specs.Spelling.{isAllowed, allAllowed};
 ghost use Rattle.lines.specs.Readings.{readingOf};
 use crate::forms::Numbered;
 use circuit::Colour;
-use circuit::Gate;
 use circuit::Spot;
 use text::Bits;
 use text::KeywordAt;
 use text::read_keyword;
 
 mod forms;
-pub mod gates;
 
 // The bytes of the longest line that is read, line feed not counted.
 const LONGEST: usize = 1024;
@@ -50,16 +46,6 @@ pub enum Class {
     Lists,
 }
 
-pub enum SpotAt {
-    Read { spot: Spot, next: usize },
-    Missing,
-}
-
-pub enum GateAt {
-    Read { gate: Gate, next: usize },
-    Missing,
-}
-
 // Digits, a to z, brackets and space (Manual 7.3).
 fn allowed(b: u8) -> bool
     ensures { λ r. ⌜ r ≡ isAllowed b ⌝ }
@@ -79,13 +65,6 @@ fn all_allowed(line: &[u8]) -> bool
         i += 1;
     }
     true
-}
-
-// A keyword of one byte.
-fn read_byte(line: &[u8], at: usize, b: u8) -> KeywordAt
-    ensures { λ r. ⌜ r ≡ readKeyword (now (line .entry)) at (b ∷ []) ⌝ }
-{
-    read_keyword(line, at, &[b])
 }
 
 // Keywords have to match in every byte (Manual 4.2). First those that build a circuit, but for its gates.

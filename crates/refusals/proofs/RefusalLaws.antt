@@ -11,11 +11,11 @@ use Rattle.gf2.proofs.Bits.{and-both}
 use Rattle.circuit.specs.declared.Gate.{Gate}
 use Rattle.circuit.specs.declared.Gate.the-variants as Gate
 use Rattle.circuit.proofs.Gate.{the-type as gate-type}
+use Rattle.gates.specs.declared.GateAt.the-variants.{Read as GateRead, Missing as NoGate}
+use Rattle.gates.specs.Gates.{layerGateAt, gatesMet}
 use Rattle.lines.specs.declared.Class.{Class}
 use Rattle.lines.specs.declared.Class.the-variants.{Creates, Builds, TakesBack, Starts, Opens, Steps, Drops, Lists}
 use Rattle.lines.proofs.Class.{the-type as class-type}
-use Rattle.lines.specs.declared.GateAt.the-variants.{Read as GateRead, Missing as NoGate}
-use Rattle.lines.specs.Gates.{layerGateAt, gatesMet}
 use Rattle.lines.specs.Typed.{Row}
 use Rattle.refusals.specs.Refusals.{orElse, refusedIf, classNumber, within, inRange, onItself, allInRange, anyOnItself, outOfRange, operandRefusal}
 

@@ -8,13 +8,12 @@ use lib.ListN.{length}
 use Rattle.circuit.specs.declared.Gate.{Gate}
 use Rattle.circuit.specs.declared.Gate.the-variants as Gate
 use Rattle.text.specs.declared.Bits.{Bits}
+use Rattle.gates.specs.Gates.{heldGate, gatesMet}
 use Rattle.lines.specs.declared.Class.{Class}
 use Rattle.lines.specs.declared.Class.the-variants as Class
 use Rattle.lines.specs.declared.Form.{Form}
 use Rattle.lines.specs.declared.Form.the-variants as Form
 use Rattle.lines.specs.Typed.{Typed, row}
-use Rattle.lines.specs.Held.{heldGate}
-use Rattle.lines.specs.Gates.{gatesMet}
 use Rattle.refusals.specs.declared.rows.Strings.{Strings}
 use Rattle.refusals.specs.declared.rows.Strings.the-variants as Strings
 use Rattle.refusals.specs.declared.rows.Gates.{Gates}

@@ -5,8 +5,8 @@ ghost use Prim.Native.Nat.{ℕ, _-_, min, _≤_};
 ghost use lib.Dec.{ltb};
 ghost use mathlib.Core.List.{List};
 ghost use Rattle.circuit.specs.Sum.{isPosition};
+ghost use Rattle.gates.specs.Gates.{gatesMet};
 ghost use Rattle.lines.specs.declared.Class.the-variants as Class;
-ghost use Rattle.lines.specs.Gates.{gatesMet};
 ghost use Rattle.lines.specs.Held.{heldReading};
 ghost use Rattle.lines.specs.Readings.{readingOf};
 ghost use Rattle.lines.specs.Typed.{Typed, row as typedRow};
@@ -18,9 +18,9 @@ use crate::rows::HeldRow;
 use crate::rows::Strings;
 use crate::rows::row_of;
 use circuit::Gate;
+use gates::GateAt;
 use lines::Class;
 use lines::Form;
-use lines::GateAt;
 use text::Bits;
 
 fn creates(class: Class) -> bool
@@ -146,7 +146,7 @@ fn layer_checked(m: usize, line: &[u8], n: usize) -> Checked
     let mut at: usize = 6;
     let mut i = 0;
     while i < n {
-        let GateAt::Read { gate, next } = lines::gates::layer_gate(line, at) else {
+        let GateAt::Read { gate, next } = gates::layer_gate(line, at) else {
             return Checked { inside, itself };
         };
         let c = gate_checked(m, gate);

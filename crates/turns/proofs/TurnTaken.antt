@@ -23,13 +23,13 @@ use Rattle.held.proofs.GateLists.{gates-more}
 use Rattle.text.specs.declared.Bits.{Bits}
 use Rattle.text.specs.Reading.{capped, heldBits}
 use Rattle.text.proofs.BitNumbers.{held-exactly}
+use Rattle.gates.specs.Gates.{heldGate, layerGates}
 use Rattle.lines.specs.declared.Form.{Form}
 use Rattle.lines.specs.declared.Form.the-variants as Form
 use Rattle.lines.specs.Typed.{amp, part, Typed, circuit, undo, start, opens, step, drop, terms, stringsOf, row}
 use Rattle.lines.specs.Spelling.{typed}
 use Rattle.lines.specs.Readings.{readingOf}
-use Rattle.lines.specs.Held.{heldGate, held, heldReading}
-use Rattle.lines.specs.Gates.{layerGates}
+use Rattle.lines.specs.Held.{held, heldReading}
 use Rattle.lines.proofs.Readings.{form-read}
 use Rattle.lines.proofs.HeldForms.{HeldAs, circuits, cczs, czs, cnots, layers, undos, starts, amps, parts, steps, drops, lists, held-as}
 use Rattle.lines.proofs.LayerLine.{handed-on}

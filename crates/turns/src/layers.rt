@@ -6,12 +6,12 @@ ghost use lib.ListN.{length};
 ghost use Rattle.circuit.specs.Sum.{areGates};
 ghost use Rattle.held.specs.Circuit.{Circuit, withGates};
 ghost use Rattle.held.specs.Memory.{encodeCircuit, stored};
-ghost use Rattle.lines.specs.Gates.{layerGates};
+ghost use Rattle.gates.specs.Gates.{layerGates};
 ghost use Rattle.lines.specs.Held.{heldReading};
 ghost use Rattle.lines.specs.Readings.{readingOf};
 ghost use Rattle.lines.specs.declared.Form.the-variants as Form;
+use gates::GateAt;
 use held::Held;
-use lines::GateAt;
 
 // Where the first gate of a layer stands: behind "(layer".
 const FIRST_GATE: usize = 6;
@@ -28,7 +28,7 @@ pub(crate) fn take_layer(held: Held, history: &mut [u32], line: &[u8], n: usize)
     let mut at = FIRST_GATE;
     let mut i = 0;
     while i < n {
-        let GateAt::Read { gate, next: after } = lines::gates::layer_gate(line, at) else {
+        let GateAt::Read { gate, next: after } = gates::layer_gate(line, at) else {
             return next;
         };
         next = held::take_gate(next, &mut *history, gate);

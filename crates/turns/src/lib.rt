@@ -10,7 +10,7 @@ ghost use Rattle.circuit.specs.Sum.{Basis};
 ghost use Rattle.held.specs.Circuit.{Circuit, newCircuit, withoutLast, withNewStart};
 ghost use Rattle.held.specs.Memory.{numbersOf, encodeCircuit, SoundCircuit};
 ghost use Rattle.text.specs.declared.Bits.{Bits};
-ghost use Rattle.lines.specs.Gates.{layerGates};
+ghost use Rattle.gates.specs.Gates.{layerGates};
 ghost use Rattle.lines.specs.Held.{heldReading};
 ghost use Rattle.lines.specs.Spelling.{typed};
 ghost use Rattle.lines.specs.Readings.{readingOf};

@@ -5,9 +5,10 @@ use mathlib.Core.Bool.{Bool, false, _||_}
 use native.Mathlib.Omega.{arith}
 use denote.Ref.{now}
 use lib.ListN.{length, drop}
-use Rattle.lines.specs.Gates.{readGate}
+use Rattle.gates.specs.Gates.{readGate}
+use Rattle.gates.proofs.Parts.{part-all, gate-fits-from}
 use Rattle.lines.specs.Forms.{layerFrom}
-use Rattle.lines.proofs.Scanning.{part-all, gate-fits-from, layer-out, layer-bracket, layer-other, layer-no-gate, layer-on}
+use Rattle.lines.proofs.Scanning.{layer-out, layer-bracket, layer-other, layer-no-gate, layer-on}
 use borrow.Author.Needs.{needs}
 use Rattle.lines.proofs.forms.layer.Statement.{statement}
 use Rattle.lines.proofs.forms.layer.Tie as tie

@@ -6,7 +6,7 @@ use mathlib.Core.Logic.{⊎-elim}
 use native.Mathlib.Nat.{sub-zero}
 use native.Mathlib.Omega.{arith}
 use denote.Ref.{now}
-use Rattle.lines.specs.Gates.{gatesMet}
+use Rattle.gates.specs.Gates.{gatesMet}
 use Rattle.refusals.specs.Refusals.{inRange, onItself, allInRange, anyOnItself}
 use Rattle.refusals.proofs.RefusalLaws.{met-next, met-end, met-all}
 use borrow.Author.Needs.{needs}

@@ -10,10 +10,10 @@ use lib.ListN.{length, getD, take, drop, length-drop}
 use lib.Seq.{length-take-le, take-all, drop-cons}
 use Rattle.circuit.specs.declared.Gate.{Gate}
 use Rattle.circuit.specs.Sum.{areGates}
-use Rattle.lines.specs.declared.GateAt.the-variants.{Read as GateRead}
-use Rattle.lines.specs.Gates.{layerGates, gatesAt, layerGateAt}
+use Rattle.gates.specs.declared.GateAt.the-variants.{Read as GateRead}
+use Rattle.gates.specs.Gates.{layerGates, gatesAt, layerGateAt}
+use Rattle.gates.proofs.LayerWalk.{layer-begins, gate-next, gates-end}
 use Rattle.lines.proofs.LayerLine.{layer-count}
-use Rattle.lines.proofs.LayerWalk.{layer-begins, gate-next, gates-end}
 use Rattle.held.specs.Circuit.{Circuit}
 use Rattle.held.specs.Memory.{encodeCircuit}
 use Rattle.held.proofs.GateLists.{noGate, gate-at, first-gates}

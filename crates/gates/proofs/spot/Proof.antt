@@ -1,9 +1,9 @@
 -- Each item is read where `readSpot` reads it, and the first that is missing ends both.
 use mathlib.Core.Path.{sym, _∙_}
-use Rattle.lines.specs.Gates.{readSpot}
+use Rattle.gates.specs.Gates.{readSpot}
 use borrow.Author.Needs.{needs}
-use Rattle.lines.proofs.gates.spot.Statement.{statement}
-use Rattle.lines.proofs.gates.spot.Tie as tie
+use Rattle.gates.proofs.spot.Statement.{statement}
+use Rattle.gates.proofs.spot.Tie as tie
 
 read-byte-requires : tie.Need-read-byte-requires
 read-byte-requires c κs = search needs

@@ -1,9 +1,9 @@
 -- Each item is read where `readCz` reads it, and the first that is missing ends both.
 use mathlib.Core.Path.{sym, _∙_}
-use Rattle.lines.specs.Gates.{readCz}
+use Rattle.gates.specs.Gates.{readCz}
 use borrow.Author.Needs.{needs}
-use Rattle.lines.proofs.gates.cz.Statement.{statement}
-use Rattle.lines.proofs.gates.cz.Tie as tie
+use Rattle.gates.proofs.cz.Statement.{statement}
+use Rattle.gates.proofs.cz.Tie as tie
 
 spot-requires : tie.Need-spot-requires
 spot-requires c κs = search needs

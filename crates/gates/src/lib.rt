@@ -1,9 +1,8 @@
 // The three gates, each read at the front of a part of a line.
+ghost use mathlib.Core.List.{[], _∷_};
 ghost use mathlib.Core.Path.{_≡_};
-ghost use Rattle.lines.specs.Gates.{readCcz, readSpot, readCz, readCnot, readGate, gatePart, layerGateAt};
-use crate::GateAt;
-use crate::SpotAt;
-use crate::read_byte;
+ghost use Rattle.text.specs.Reading.{readKeyword};
+ghost use Rattle.gates.specs.Gates.{readCcz, readSpot, readCz, readCnot, readGate, gatePart, layerGateAt};
 use circuit::Gate;
 use circuit::Spot;
 use text::ColourAt;
@@ -13,6 +12,23 @@ use text::read_colour;
 use text::read_keyword;
 use text::read_number;
 use text::spaced_number;
+
+pub enum SpotAt {
+    Read { spot: Spot, next: usize },
+    Missing,
+}
+
+pub enum GateAt {
+    Read { gate: Gate, next: usize },
+    Missing,
+}
+
+// A keyword of one byte.
+fn read_byte(line: &[u8], at: usize, b: u8) -> KeywordAt
+    ensures { λ r. ⌜ r ≡ readKeyword (now (line .entry)) at (b ∷ []) ⌝ }
+{
+    read_keyword(line, at, &[b])
+}
 
 fn ccz(line: &[u8], a: usize) -> GateAt
     ensures { λ r. ⌜ r ≡ readCcz (now (line .entry)) a ⌝ }

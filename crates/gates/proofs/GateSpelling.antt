@@ -17,12 +17,11 @@ use Rattle.text.proofs.Items.{past, spaced}
 use Rattle.text.proofs.ItemsSpelled.{keyword-then, number-then, spaced-number-then, colour-then}
 use Rattle.text.proofs.ItemCases.{keyword-cases, number-cases, spaced-number-cases, colour-cases}
 use Rattle.text.proofs.GateItems.{cczItems, czItems, cnotItems, spot-items, ccz-items, cz-items, cnot-items}
-use Rattle.lines.specs.Held.{heldGate}
-use Rattle.lines.specs.Gates.{readCcz, readSpot, readCz, readCnot, readGate, gateEnd, gatePart, withSpot}
-use Rattle.lines.specs.declared.SpotAt.{SpotAt}
-use Rattle.lines.specs.declared.SpotAt.the-variants.{Read as SpotRead, Missing as NoSpot}
-use Rattle.lines.specs.declared.GateAt.{GateAt}
-use Rattle.lines.specs.declared.GateAt.the-variants.{Read as GateRead, Missing as NoGate}
+use Rattle.gates.specs.Gates.{heldGate, withSpot, readCcz, readSpot, readCz, readCnot, readGate, gateEnd, gatePart}
+use Rattle.gates.specs.declared.SpotAt.{SpotAt}
+use Rattle.gates.specs.declared.SpotAt.the-variants.{Read as SpotRead, Missing as NoSpot}
+use Rattle.gates.specs.declared.GateAt.{GateAt}
+use Rattle.gates.specs.declared.GateAt.the-variants.{Read as GateRead, Missing as NoGate}
 
 abbrev pub heldSpot : Spot → Spot
 heldSpot p = record { colour = p .colour; position = capped (p .position) }

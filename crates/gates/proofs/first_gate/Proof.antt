@@ -1,9 +1,9 @@
 -- The three keywords are tried in the order of `readGate`.
 use mathlib.Core.Path.{sym, _∙_}
-use Rattle.lines.specs.Gates.{readGate}
+use Rattle.gates.specs.Gates.{readGate}
 use borrow.Author.Needs.{needs}
-use Rattle.lines.proofs.gates.first_gate.Statement.{statement}
-use Rattle.lines.proofs.gates.first_gate.Tie as tie
+use Rattle.gates.proofs.first_gate.Statement.{statement}
+use Rattle.gates.proofs.first_gate.Tie as tie
 
 slice-aggregate-read-keyword : tie.Need-slice-aggregate-read-keyword
 slice-aggregate-read-keyword c = search needs

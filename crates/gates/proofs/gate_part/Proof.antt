@@ -4,11 +4,11 @@ use mathlib.Core.Path.{ap, sym, _∙_}
 use native.Mathlib.Nat.{sub-zero}
 use denote.Ref.{now}
 use lib.ListN.{take}
-use Rattle.lines.specs.Gates.{gateEnd, gatePart}
-use Rattle.lines.proofs.GateSpelling.{gate-fits}
+use Rattle.gates.specs.Gates.{gateEnd, gatePart}
+use Rattle.gates.proofs.GateSpelling.{gate-fits}
 use borrow.Author.Needs.{needs}
-use Rattle.lines.proofs.gates.gate_part.Statement.{statement}
-use Rattle.lines.proofs.gates.gate_part.Tie as tie
+use Rattle.gates.proofs.gate_part.Statement.{statement}
+use Rattle.gates.proofs.gate_part.Tie as tie
 
 first-gate-requires : tie.Need-first-gate-requires
 first-gate-requires c κs = search needs

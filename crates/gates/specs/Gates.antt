@@ -1,4 +1,4 @@
--- A gate at the front of a part of a line.
+-- A gate at the front of a part of a line, and what the code holds of it.
 use Prim.Native.Nat.{ℕ, zero, suc, _+_}
 use mathlib.Core.Bool.{cond}
 use mathlib.Core.List.{List, [], _∷_}
@@ -8,11 +8,18 @@ use Rattle.circuit.specs.declared.Spot.{Spot}
 use Rattle.circuit.specs.declared.Gate.{Gate}
 use Rattle.circuit.specs.declared.Gate.the-variants.{Ccz, Cz, Cnot}
 use Rattle.text.specs.Spelling.{bytes}
-use Rattle.text.specs.Reading.{readKeyword, readNumber, readColour, spacedNumber, afterKeyword, withNumber, withColour}
-use Rattle.lines.specs.declared.SpotAt.{SpotAt}
-use Rattle.lines.specs.declared.SpotAt.the-variants.{Read as SpotRead, Missing as NoSpot}
-use Rattle.lines.specs.declared.GateAt.{GateAt}
-use Rattle.lines.specs.declared.GateAt.the-variants.{Read as GateRead, Missing as NoGate}
+use Rattle.text.specs.Reading.{capped, readKeyword, readNumber, readColour, spacedNumber, afterKeyword, withNumber, withColour}
+use Rattle.gates.specs.declared.SpotAt.{SpotAt}
+use Rattle.gates.specs.declared.SpotAt.the-variants.{Read as SpotRead, Missing as NoSpot}
+use Rattle.gates.specs.declared.GateAt.{GateAt}
+use Rattle.gates.specs.declared.GateAt.the-variants.{Read as GateRead, Missing as NoGate}
+
+-- What the code holds of a gate: its numbers capped.
+unfoldable pub heldGate : Gate → Gate
+heldGate (Ccz i j k) = Ccz (capped i) (capped j) (capped k)
+heldGate (Cz p q) =
+    Cz (record { colour = p .colour; position = capped (p .position) }) (record { colour = q .colour; position = capped (q .position) })
+heldGate (Cnot C c t) = Cnot C (capped c) (capped t)
 
 abbrev pub withSpot : {A : Type 0} → A → SpotAt → (Spot → ℕ → A) → A
 withSpot out (SpotRead s n) k = k s n

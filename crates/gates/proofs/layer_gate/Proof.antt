@@ -7,13 +7,13 @@ use native.Mathlib.Omega.{arith}
 use denote.Ref.{now}
 use Rattle.text.specs.Spelling.{bytes}
 use Rattle.text.proofs.Items.{keyword-fits}
-use Rattle.lines.specs.Gates.{readGate, gatePart, layerGateAt}
-use Rattle.lines.specs.declared.GateAt.{GateAt}
-use Rattle.lines.proofs.Scanning.{part-all, gate-fits-from}
-use Rattle.lines.proofs.GateSpelling.{gatePart-read}
+use Rattle.gates.specs.Gates.{readGate, gatePart, layerGateAt}
+use Rattle.gates.specs.declared.GateAt.{GateAt}
+use Rattle.gates.proofs.Parts.{part-all, gate-fits-from}
+use Rattle.gates.proofs.GateSpelling.{gatePart-read}
 use borrow.Author.Needs.{needs}
-use Rattle.lines.proofs.gates.layer_gate.Statement.{statement}
-use Rattle.lines.proofs.gates.layer_gate.Tie as tie
+use Rattle.gates.proofs.layer_gate.Statement.{statement}
+use Rattle.gates.proofs.layer_gate.Tie as tie
 
 -- The gate's own part of the line is read as what stands at that place.
 part-read : (l : List ℕ) (from : ℕ) {part : List ℕ} {g : GateAt} → part ≡ gatePart (take (length l - from) (drop from l)) → readGate part ≡ g → readGate (drop from l) ≡ g

@@ -1,5 +1,5 @@
 -- A layer line is walked gate by gate: from place 6 on, each `layerGateAt` gives the next gate of `layerGates` and the place to go on from.
-use Prim.Native.Nat.{ℕ, _+_}
+use Prim.Native.Nat.{ℕ, zero, suc, _+_}
 use mathlib.Core.Path.{_≡_, refl, ap, sym, _∙_}
 use mathlib.Core.Bool.{Bool, true, false}
 use mathlib.Core.List.{List, [], _∷_}
@@ -10,14 +10,15 @@ use Rattle.gf2.proofs.Impossible.{never}
 use Rattle.circuit.specs.declared.Gate.{Gate}
 use Rattle.text.specs.Reading.{readKeyword}
 use Rattle.text.specs.Spelling.{begins}
-use Rattle.lines.specs.Gates.{withGate, readGate, gatesFrom, layerGates, gatesAt, layerGateAt, gatesMet}
-use Rattle.lines.specs.Readings.{readingOf}
-use Rattle.lines.specs.Held.{heldReading}
-use Rattle.lines.specs.declared.GateAt.{GateAt}
-use Rattle.lines.specs.declared.GateAt.the-variants.{Read as GateRead, Missing as NoGate}
-use Rattle.lines.specs.declared.Form.the-variants as Form
-use Rattle.lines.proofs.LayerSpelling.{gates-skip}
-use Rattle.lines.proofs.LayerLine.{layer-count}
+use Rattle.gates.specs.Gates.{withGate, readGate, gatesFrom, layerGates, gatesAt, layerGateAt, gatesMet}
+use Rattle.gates.specs.declared.GateAt.{GateAt}
+use Rattle.gates.specs.declared.GateAt.the-variants.{Read as GateRead, Missing as NoGate}
+
+pub gates-skip : (skip : ℕ) (l : List ℕ) → gatesFrom skip l ≡ gatesFrom 0 (drop skip l)
+unfolding gatesFrom
+gates-skip zero l = refl
+gates-skip (suc skip) [] = refl
+gates-skip (suc skip) (x ∷ xs) = gates-skip skip xs
 
 -- The walk begins behind "(layer".
 pub layer-begins : (l : List ℕ) → gatesAt l 6 ≡ layerGates l
@@ -51,7 +52,8 @@ module _ (l : List ℕ) (at : ℕ) where
   pub gates-end : layerGateAt l at ≡ NoGate → gatesAt l at ≡ []
   gates-end h = step ∙ ap (λ (r : GateAt). withGate [] r λ g next. g ∷ gatesAt l next) h
 
-walk-all : (l : List ℕ) (gs : List Gate) (at : ℕ) → gatesAt l at ≡ gs → gatesMet (length gs) l at ≡ gs
+-- The gates from a place on are what following the places meets, in as many steps as there are gates.
+pub walk-all : (l : List ℕ) (gs : List Gate) (at : ℕ) → gatesAt l at ≡ gs → gatesMet (length gs) l at ≡ gs
 unfolding gatesMet
 walk-all l [] at p = refl
 walk-all l (g ∷ gs) at p = go (layerGateAt l at) (sym (step l at) ∙ p) (walk-all l gs)
@@ -60,7 +62,3 @@ walk-all l (g ∷ gs) at p = go (layerGateAt l at) (sym (step l at) ∙ p) (walk
         → withGate [] r (λ h next. h ∷ gatesMet (length gs) l next) ≡ g ∷ gs
     go (GateRead h next) e again = let same : h ≡ g = cc in let left : gatesAt l next ≡ gs = cc in rw (same, again next left)
     go NoGate e again = never (cc)
-
--- The gates of a layer line are what following the places from 6 on meets, in as many steps as the reader says.
-pub layer-walked : (l : List ℕ) (n : ℕ) → heldReading (readingOf l) ≡ Form.Layer n → gatesMet n l 6 ≡ layerGates l
-layer-walked l n h = rw (sym (layer-count l n h)) (walk-all l (layerGates l) 6 (layer-begins l))
