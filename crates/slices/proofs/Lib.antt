@@ -6,7 +6,6 @@ pub mod Bounds
 pub mod OutputString
 pub mod Amplitude
 pub mod Known
-pub mod TableWords
 pub mod BitTests
 pub mod Successor
 pub mod SliceWords
@@ -16,4 +15,3 @@ pub mod SlicesAdded
 pub mod SliceSystem
 pub mod SliceAnswer
 pub mod SliceTotals
-pub mod OutputWords

@@ -18,8 +18,8 @@ use Rattle.circuit.specs.Polynomial.{Polynomial, value}
 use Rattle.circuit.proofs.Three.{the-join, first-join, second-join, join-parts}
 use Rattle.circuit.proofs.Value.{factor, value-join, parity₂-ext, parity₂-⊕}
 use Rattle.circuit.proofs.Phase.{Sized}
+use Rattle.tables.specs.Packing.{added, withOutput}
 use Rattle.slices.specs.Slices.{coefficient}
-use Rattle.slices.specs.Packing.{added, withOutput}
 use Rattle.slices.proofs.Slicing.{parity-head}
 
 bit-dot : (n : ℕ) (z p : BitString) → length z ≡ n → parity n (λ i. bit i z && bit i p) ≡ dot p z

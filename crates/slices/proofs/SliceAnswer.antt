@@ -29,11 +29,11 @@ use Rattle.elimination.specs.Rows.{pivots}
 use Rattle.elimination.specs.State.{begun, outcomeOf}
 use Rattle.elimination.proofs.Solving.{vanished, signedPower, sizeValue}
 use Rattle.elimination.proofs.SignedSum.{sizeOf, columns-few}
+use Rattle.tables.specs.Packing.{strings, withOutput, packedRows}
 use Rattle.slices.specs.declared.slice.Slice.{Slice}
 use Rattle.slices.specs.Slices.{coefficient, gamma, innerSum}
 use Rattle.slices.specs.Rank.{rank}
-use Rattle.slices.specs.Totals.{isNought, sliceRank, signedPart, share, strings}
-use Rattle.slices.specs.Packing.{withOutput, packedRows}
+use Rattle.slices.specs.Totals.{isNought, sliceRank, signedPart, share}
 use Rattle.slices.specs.Answers.{sliceAnswer, nought, cleared, vanishing, answerOf, answerTo, answerAt, shareOf}
 use Rattle.slices.proofs.Bounds.{signed-abs}
 use Rattle.slices.proofs.Rank.{IsPower, pow-inj, size-signed, rank-le, innerSum-size}

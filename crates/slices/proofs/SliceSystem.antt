@@ -32,11 +32,11 @@ use Rattle.elimination.proofs.Solving.{sizeValue}
 use Rattle.elimination.proofs.Equations.{equationOf, systemSum-zero-rows}
 use Rattle.elimination.proofs.Narrow.{Narrow}
 use Rattle.elimination.proofs.SignedSum.{sizeOf, sizeOf-pivots}
+use Rattle.tables.specs.Packing.{withOutput, rowOf, rowAt, packedRows}
+use Rattle.tables.proofs.TableWords.{rowAt-in, rowAt-lt, length-packedRows, rowsOf-packedRows}
 use Rattle.slices.specs.Slices.{along, coefficient, gamma, firstVector, secondVector, innerSum}
-use Rattle.slices.specs.Packing.{withOutput, rowOf, rowAt, packedRows}
 use Rattle.slices.proofs.Slicing.{length-along, equations, length-equations, length-gamma, innerSum-by-system}
 use Rattle.slices.proofs.OutputString.{coefficient-output}
-use Rattle.slices.proofs.TableWords.{rowAt-in, rowAt-lt, length-packedRows, rowsOf-packedRows}
 
 -- ---- strings and lists by their places
 

@@ -16,10 +16,10 @@ use Rattle.circuit.specs.declared.Gate.{Gate}
 use Rattle.circuit.specs.Colours.{first, second}
 use Rattle.circuit.specs.Sum.{Basis}
 use Rattle.circuit.specs.Polynomial.{Polynomial, polynomial}
+use Rattle.tables.specs.Packing.{strings, withOutput, Tabled}
 use Rattle.slices.specs.declared.slice.Slice.{Slice}
 use Rattle.slices.specs.declared.total.Sums.{Sums}
-use Rattle.slices.specs.Totals.{signedPart, amplitudeAfter, amplitudeOver, share, tallyBelow, readoutAfter, readoutOver, areSlices, moderate, moderateCount, strings}
-use Rattle.slices.specs.Packing.{withOutput, Tabled}
+use Rattle.slices.specs.Totals.{signedPart, amplitudeAfter, amplitudeOver, share, tallyBelow, readoutAfter, readoutOver, areSlices, moderate, moderateCount}
 use Rattle.slices.specs.Answers.{sliceAnswer, answerAt, shareOf}
 use Rattle.slices.specs.Walking.{Walked}
 use Rattle.slices.proofs.Bounds.{amplitudeAfter-bound, readoutAfter-bound}

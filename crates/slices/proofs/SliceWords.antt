@@ -20,11 +20,11 @@ use Rattle.circuit.specs.declared.Colour.{Colour}
 use Rattle.circuit.specs.Colours.{join}
 use Rattle.circuit.specs.Sum.{at}
 use Rattle.circuit.specs.Polynomial.{Polynomial}
+use Rattle.tables.specs.Packing.{rowOf, rowAt, packedWord, packedRows, tableOf}
+use Rattle.tables.proofs.TableWords.{packedWord-cong, packedWord-xor, packedRows-at, packedRows-cong, tableOf-at}
 use Rattle.slices.specs.Slices.{coefficient}
-use Rattle.slices.specs.Packing.{rowOf, rowAt, packedWord, packedRows, tableOf}
 use Rattle.slices.specs.Walking.{lastPositions, rowsPlus, rowsNext}
 use Rattle.slices.proofs.Slicing.{parity-head}
-use Rattle.slices.proofs.TableWords.{packedWord-cong, packedWord-xor, packedRows-at, packedRows-cong, tableOf-at}
 use Rattle.slices.proofs.Successor.{digits-next, trailing-lt, at-highFirst, parity-turned, parity-upTo}
 
 rows-plus : (a b : ℕ → ℕ → Bool) (rows table : List ℕ) (k : ℕ) → rows ≡ packedRows a → ((w : ℕ) → w < 6 → getD table (6 * k + w) 0 ≡ packedWord b w)

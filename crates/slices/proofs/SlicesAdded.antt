@@ -17,11 +17,11 @@ use Rattle.circuit.specs.Polynomial.{Polynomial}
 use Rattle.elimination.specs.declared.Outcome.{Outcome}
 use Rattle.elimination.specs.Rows.{pivots}
 use Rattle.elimination.specs.State.{begun, outcomeOf}
+use Rattle.tables.specs.Packing.{packedRows, tableOf}
 use Rattle.slices.specs.declared.slice.Slice.{Slice}
 use Rattle.slices.specs.declared.total.Sums.{Sums}
 use Rattle.slices.specs.Slices.{coefficient}
 use Rattle.slices.specs.Totals.{tallyBelow}
-use Rattle.slices.specs.Packing.{packedRows, tableOf}
 use Rattle.slices.specs.Answers.{nought, cleared, vanishing, answerOf, answerTo, answerAt, shareOf}
 use Rattle.slices.specs.Walking.{plusSlice, Walked}
 use Rattle.slices.proofs.Bounds.{signed-abs}

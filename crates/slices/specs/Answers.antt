@@ -16,10 +16,10 @@ use Rattle.circuit.specs.Polynomial.{Polynomial}
 use Rattle.elimination.specs.declared.Outcome.{Outcome}
 use Rattle.elimination.specs.Rows.{pivots}
 use Rattle.elimination.specs.State.{begun, outcomeOf}
+use Rattle.tables.specs.Packing.{packedRows}
 use Rattle.slices.specs.declared.slice.Slice.{Slice}
 use Rattle.slices.specs.Slices.{coefficient}
 use Rattle.slices.specs.Totals.{isNought, sliceRank, signedPart}
-use Rattle.slices.specs.Packing.{packedRows}
 
 -- A slice answers its inner sum, with the sign that it has in the signed sum (Manual 3.5), and its rank.
 unfoldable pub sliceAnswer : ℕ → Polynomial → Colour → Basis → BitString → Slice

@@ -1,7 +1,6 @@
 pub mod Slices
 pub mod Rank
 pub mod Totals
-pub mod Packing
 pub mod Known
 pub mod Answers
 pub mod Walking

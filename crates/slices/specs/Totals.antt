@@ -74,7 +74,3 @@ moderate total = leb (natAbs total) (2 ^ 60)
 -- A readout's total, likewise.
 unfoldable pub moderateCount : ℕ → Bool
 moderateCount total = leb total (2 ^ 60)
-
--- The basis string of three numbers, position 1 the highest digit of m.
-unfoldable pub strings : ℕ → ℕ → ℕ → ℕ → Basis
-strings m r b g = record { red = highFirst m r; blue = highFirst m b; green = highFirst m g }

@@ -12,10 +12,10 @@ use Rattle.gf2.specs.Words.{tabulate}
 use Rattle.circuit.specs.declared.Colour.{Colour}
 use Rattle.circuit.specs.Colours.{join}
 use Rattle.circuit.specs.Polynomial.{Polynomial}
+use Rattle.tables.specs.Packing.{tableOf}
 use Rattle.slices.specs.declared.slice.Slice.{Slice}
 use Rattle.slices.specs.declared.total.Sums.{Sums}
 use Rattle.slices.specs.Totals.{tallyBelow}
-use Rattle.slices.specs.Packing.{tableOf}
 use Rattle.slices.specs.Answers.{answerAt, shareOf}
 
 -- What the last t + 1 positions of C multiply, added up: position m first, then m − 1, ..

@@ -1,6 +1,4 @@
-// Sums over the slices of one colour: a table built once for a sum, and the slices' totals from it.
-pub mod output;
+// Sums over the slices of one colour: the slices' totals, from a table built once for a sum.
 pub mod slice;
-pub mod table;
 pub mod total;
 mod walk;

@@ -9,18 +9,18 @@ ghost use Rattle.circuit.specs.declared.Colour.{Colour};
 ghost use Rattle.circuit.specs.declared.Gate.{Gate};
 ghost use Rattle.circuit.specs.Colours.{first, second};
 ghost use Rattle.circuit.specs.Polynomial.{polynomial};
-ghost use Rattle.slices.specs.Packing.{Tabled};
-ghost use Rattle.slices.specs.Totals.{strings, amplitudeOver, readoutOver, areSlices, moderate, moderateCount};
+ghost use Rattle.tables.specs.Packing.{strings, Tabled};
+ghost use Rattle.slices.specs.Totals.{amplitudeOver, readoutOver, areSlices, moderate, moderateCount};
 ghost use Rattle.slices.specs.Answers.{sliceAnswer, nought, answerTo};
 ghost use Rattle.slices.specs.Walking.{plusSlice, Walked};
 use crate::slice::Slice;
 use crate::slice::answer;
 use crate::slice::share;
-use crate::table::TABLE;
 use crate::walk::changes;
 use crate::walk::next_rows;
 use crate::walk::rows_at;
 use elimination::WORDS;
+use tables::table::TABLE;
 
 // The least and the most that an amplitude's total may be to have slices added. A sum's is at most 2^48 from 0.
 const LEAST: i64 = -(1 << 60);

@@ -6,11 +6,11 @@ ghost use lib.ListN.{getD};
 ghost use Rattle.gf2.specs.Digits.{highFirst};
 ghost use Rattle.circuit.specs.declared.Colour.{Colour};
 ghost use Rattle.circuit.specs.Polynomial.{Polynomial};
+ghost use Rattle.tables.specs.Packing.{packedWord, packedRows, tableOf};
 ghost use Rattle.slices.specs.Slices.{coefficient};
-ghost use Rattle.slices.specs.Packing.{packedWord, packedRows, tableOf};
 ghost use Rattle.slices.specs.Walking.{lastPositions, rowsPlus, rowsNext};
-use crate::table::TABLE;
 use elimination::WORDS;
+use tables::table::TABLE;
 
 // Word `w` of the rows with those at index `k` of a table added.
 fn moved_word(rows: [u64; WORDS], table: &[u64; TABLE], k: usize, w: usize) -> u64

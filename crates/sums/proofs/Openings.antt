@@ -18,8 +18,8 @@ use Rattle.circuit.specs.Colours.{join}
 use Rattle.circuit.specs.Polynomial.{Polynomial, polynomial}
 use Rattle.circuit.specs.Sum.{Basis}
 use Rattle.circuit.specs.Words.{wordsOf}
-use Rattle.slices.specs.Packing.{withOutput, tableOf}
-use Rattle.slices.specs.Totals.{strings, withStart, amplitudeAfter, tallyBelow, readoutAfter}
+use Rattle.tables.specs.Packing.{strings, withOutput, tableOf}
+use Rattle.slices.specs.Totals.{withStart, amplitudeAfter, tallyBelow, readoutAfter}
 use Rattle.held.specs.declared.Held.{Held}
 use Rattle.held.specs.Circuit.{Circuit}
 use Rattle.held.specs.Memory.{numbersOf, encodeCircuit, SoundCircuit}

@@ -21,8 +21,8 @@ use Rattle.circuit.specs.declared.Gate.{Gate}
 use Rattle.circuit.specs.Colours.{first, second, join}
 use Rattle.circuit.specs.Sum.{Basis}
 use Rattle.circuit.specs.Polynomial.{Polynomial, polynomial}
-use Rattle.slices.specs.Packing.{Tabled}
-use Rattle.slices.specs.Totals.{strings, withStart, areSlices, moderate, moderateCount, amplitudeAfter, amplitudeOver, readoutAfter, readoutOver}
+use Rattle.tables.specs.Packing.{strings, Tabled}
+use Rattle.slices.specs.Totals.{withStart, areSlices, moderate, moderateCount, amplitudeAfter, amplitudeOver, readoutAfter, readoutOver}
 use Rattle.slices.proofs.Bounds.{amplitudeAfter-bound}
 use Rattle.slices.proofs.OutcomeTests.{abs-fits}
 use Rattle.slices.proofs.SliceTotals.{amplitude-continued, readout-continued}

@@ -6,7 +6,7 @@ use Rattle.circuit.specs.declared.Colour.{Colour}
 use Rattle.circuit.specs.Colours.{join}
 use Rattle.circuit.specs.Sum.{Basis}
 use Rattle.circuit.specs.Polynomial.{polynomial}
-use Rattle.slices.specs.Packing.{withOutput, tableOf}
+use Rattle.tables.specs.Packing.{withOutput, tableOf}
 use Rattle.slices.specs.Totals.{withStart}
 use Rattle.held.specs.Circuit.{Circuit}
 use Rattle.lines.specs.Typed.{Asked, amp, part}

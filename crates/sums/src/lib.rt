@@ -13,7 +13,7 @@ ghost use Rattle.sums.specs.Soundness.{SoundSum, SoundOpened};
 use answers::Answer;
 use circuit::Colour;
 use held::Held;
-use slices::table::TABLE;
+use tables::table::TABLE;
 
 // What the slices worked add up to, by what the sum was opened for.
 pub enum Total {
@@ -72,14 +72,14 @@ fn table_of(held: Held, colour: Colour, r: u32, b: u32, g: u32) -> [u64; TABLE]
 {
     let start = held.start;
     let words = held.polynomial;
-    let seen = slices::output::with_output(
+    let seen = tables::output::with_output(
         words,
         held.m,
         r ^ start.red,
         b ^ start.blue,
         g ^ start.green,
     );
-    slices::table::table(seen, colour)
+    tables::table::table(seen, colour)
 }
 
 // `(amp C R B G)`, by the numbers of the three strings.

@@ -4,8 +4,8 @@ use mathlib.Core.Bool.{false, true}
 use native.Mathlib.Omega.{arith}
 use Rattle.circuit.specs.Polynomial.{polynomial}
 use borrow.Author.Tests.{not-true, not-false}
-use Rattle.slices.specs.Totals.{areSlices, strings}
-use Rattle.slices.specs.Packing.{withOutput}
+use Rattle.tables.specs.Packing.{strings, withOutput}
+use Rattle.slices.specs.Totals.{areSlices}
 use Rattle.slices.specs.Answers.{answerOf, answerTo, answerAt}
 use Rattle.slices.proofs.EntryChecks.{range-holds}
 use Rattle.slices.proofs.SliceTotals.{answers}

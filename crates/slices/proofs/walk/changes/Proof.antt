@@ -7,9 +7,9 @@ use native.Mathlib.Omega.{arith}
 use lib.ListN.{length, getD, length-set, length-replicate}
 use Rattle.circuit.specs.declared.Colour.{Colour}
 use Rattle.circuit.specs.Polynomial.{Polynomial}
-use Rattle.slices.specs.Packing.{packedWord, tableOf}
+use Rattle.tables.specs.Packing.{packedWord, tableOf}
+use Rattle.tables.proofs.TableWords.{stored-more}
 use Rattle.slices.specs.Walking.{lastPositions}
-use Rattle.slices.proofs.TableWords.{stored-more}
 use Rattle.slices.proofs.SliceWords.{change-first, change-more}
 use Rattle.slices.proofs.walk.changes.Statement.{statement}
 use Rattle.slices.proofs.walk.changes.Tie as tie

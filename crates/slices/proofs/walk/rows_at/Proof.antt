@@ -8,7 +8,7 @@ use borrow.Author.Needs.{needs}
 use Rattle.gf2.specs.Digits.{highFirst}
 use Rattle.circuit.specs.declared.Colour.{Colour}
 use Rattle.circuit.specs.Polynomial.{Polynomial}
-use Rattle.slices.specs.Packing.{packedRows, tableOf}
+use Rattle.tables.specs.Packing.{packedRows, tableOf}
 use Rattle.slices.proofs.Successor.{digit-set, digit-clear}
 use Rattle.slices.proofs.SliceWords.{below, below-one, below-set, below-clear, below-all}
 use Rattle.slices.proofs.walk.rows_at.Statement.{statement}

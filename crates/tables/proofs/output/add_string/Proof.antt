@@ -10,10 +10,10 @@ use Rattle.gf2.specs.Strings.{BitString, bit}
 use Rattle.gf2.specs.Digits.{highFirst}
 use Rattle.circuit.specs.Polynomial.{Polynomial}
 use Rattle.circuit.specs.Words.{wordsOf}
-use Rattle.slices.proofs.OutputWords.{addedBelow, position-bit, words-begun, words-next, words-passed, words-ended}
+use Rattle.tables.proofs.OutputWords.{addedBelow, position-bit, words-begun, words-next, words-passed, words-ended}
 use borrow.Author.Needs.{needs}
-use Rattle.slices.proofs.output.add_string.Statement.{statement}
-use Rattle.slices.proofs.output.add_string.Tie as tie
+use Rattle.tables.proofs.output.add_string.Statement.{statement}
+use Rattle.tables.proofs.output.add_string.Tie as tie
 
 abbrev Inv-loop : tie.InvT-loop
 Inv-loop colour m value next₀ p₀ next p =

@@ -5,10 +5,10 @@ use Prim.Native.Nat.{ℕ, _+_, _-_, _≤_}
 use native.Mathlib.Omega.{arith}
 use lib.ListN.{getD}
 use Rattle.gf2.specs.Words.{bitAt, wordOf}
-use Rattle.slices.proofs.TableWords.{gathered-more}
+use Rattle.tables.proofs.TableWords.{gathered-more}
 use borrow.Author.Needs.{needs}
-use Rattle.slices.proofs.table.gathered.Statement.{statement}
-use Rattle.slices.proofs.table.gathered.Tie as tie
+use Rattle.tables.proofs.table.gathered.Statement.{statement}
+use Rattle.tables.proofs.table.gathered.Tie as tie
 
 abbrev Inv-loop : tie.InvT-loop
 Inv-loop words from k bits₀ j₀ bits j = (j ≤ 17) × (bits ≡ wordOf j (λ n. bitAt (getD words (from + n) 0) k))

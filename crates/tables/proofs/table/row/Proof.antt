@@ -8,11 +8,11 @@ use Rattle.gf2.specs.Words.{bitAt, wordOf}
 use Rattle.circuit.specs.declared.Colour.{Colour}
 use Rattle.circuit.specs.declared.Colour.the-variants.{Red, Blue, Green}
 use Rattle.circuit.specs.Colours.{join}
-use Rattle.slices.specs.Packing.{rowOf}
-use Rattle.slices.proofs.TableWords.{row-of-word, word-red, word-blue, word-green}
+use Rattle.tables.specs.Packing.{rowOf}
+use Rattle.tables.proofs.TableWords.{row-of-word, word-red, word-blue, word-green}
 use borrow.Author.Needs.{needs}
-use Rattle.slices.proofs.table.row.Statement.{statement}
-use Rattle.slices.proofs.table.row.Tie as tie
+use Rattle.tables.proofs.table.row.Statement.{statement}
+use Rattle.tables.proofs.table.row.Tie as tie
 
 index-at-requires : tie.Need-index-at-requires
 index-at-requires c κs = search needs

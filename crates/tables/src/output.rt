@@ -7,8 +7,7 @@ ghost use Rattle.gf2.specs.Digits.{highFirst};
 ghost use Rattle.circuit.specs.Colours.{join};
 ghost use Rattle.circuit.specs.Polynomial.{Polynomial};
 ghost use Rattle.circuit.specs.Words.{wordsOf};
-ghost use Rattle.slices.specs.Packing.{added, withOutput};
-ghost use Rattle.slices.specs.Totals.{strings};
+ghost use Rattle.tables.specs.Packing.{strings, added, withOutput};
 use circuit::Colour;
 use circuit::polynomial::WORDS;
 

@@ -1,11 +1,12 @@
 -- How an open sum holds its slices: the polynomial with the output string added, seen from the sliced colour, in packed rows.
--- A state's bytes are fixed by these definitions; what the slices add up to is said in Totals.
+-- A state's bytes are fixed by these definitions; what the slices add up to is said in `slices` Totals.
 use mathlib.Core.Path.{_≡_}
 use mathlib.Core.Bool.{Bool, true, false, cond, _&&_}
 use mathlib.Core.List.{List, _∷_}
 use Prim.Native.Nat.{ℕ, _+_, _*_, _/_, _%_, _^_}
 use lib.Dec.{eqb, ltb}
 use Rattle.gf2.specs.Strings.{BitString, _⊕_, bit}
+use Rattle.gf2.specs.Digits.{highFirst}
 use Rattle.gf2.specs.Words.{wordOf, tabulate}
 use Rattle.circuit.specs.declared.Colour.{Colour}
 use Rattle.circuit.specs.declared.Colour.the-variants.{Red, Blue, Green}
@@ -13,6 +14,10 @@ use Rattle.circuit.specs.declared.Gate.{Gate}
 use Rattle.circuit.specs.Colours.{the, first, second, join}
 use Rattle.circuit.specs.Sum.{Basis, areGates}
 use Rattle.circuit.specs.Polynomial.{Polynomial, polynomial}
+
+-- The basis string of three numbers, position 1 the highest digit of m.
+unfoldable pub strings : ℕ → ℕ → ℕ → ℕ → Basis
+strings m r b g = record { red = highFirst m r; blue = highFirst m b; green = highFirst m g }
 
 -- A string p of colour C added to the polynomial: its bit at position i acts as the term that holds i alone.
 unfoldable pub added : Colour → BitString → Polynomial → Polynomial
@@ -41,8 +46,8 @@ packedRows a = tabulate 6 (packedWord a)
 unfoldable pub tableOf : Colour → Polynomial → List ℕ
 tableOf C f = tabulate 102 (λ n. packedWord (λ i j. f (join C (n / 6) i j)) (n % 6))
 
--- All that `slice`, `amplitude` and `readout` ask: the table is the one that `slices::table` makes for the gates of a circuit of m positions
--- at the output string s, sliced on C.
+-- All that `slice`, `amplitude` and `readout` of `slices` ask: the table is the one that `table` makes for the gates of a circuit of m
+-- positions at the output string s, sliced on C.
 pub record Tabled (m : ℕ) (gs : List Gate) (C : Colour) (s : Basis) (table : List ℕ) : Type 0 where
   pub gates : areGates m gs ≡ true
   pub made : table ≡ tableOf C (withOutput s (polynomial gs))

@@ -1,8 +1,8 @@
 -- The term that holds a position alone has index 0 in the other two colours.
 use Rattle.circuit.specs.Colours.{join}
 use borrow.Author.Needs.{needs}
-use Rattle.slices.proofs.output.bit_of.Statement.{statement}
-use Rattle.slices.proofs.output.bit_of.Tie as tie
+use Rattle.tables.proofs.output.bit_of.Statement.{statement}
+use Rattle.tables.proofs.output.bit_of.Tie as tie
 
 enum-told : tie.Need-enum-told
 enum-told c = search needs

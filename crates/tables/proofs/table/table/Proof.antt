@@ -6,11 +6,11 @@ use lib.ListN.{length, length-set, getD}
 use Rattle.circuit.specs.Colours.{join}
 use Rattle.circuit.specs.Polynomial.{Polynomial}
 use Rattle.circuit.specs.Words.{wordsOf}
-use Rattle.slices.specs.Packing.{packedWord}
-use Rattle.slices.proofs.TableWords.{stored-more, tableOf-unique}
+use Rattle.tables.specs.Packing.{packedWord}
+use Rattle.tables.proofs.TableWords.{stored-more, tableOf-unique}
 use borrow.Author.Needs.{needs}
-use Rattle.slices.proofs.table.table.Statement.{statement}
-use Rattle.slices.proofs.table.table.Tie as tie
+use Rattle.tables.proofs.table.table.Statement.{statement}
+use Rattle.tables.proofs.table.table.Tie as tie
 
 abbrev Inv-loop : tie.InvT-loop
 Inv-loop colour words t₀ n₀ t n =

@@ -21,7 +21,7 @@ use Rattle.circuit.specs.Colours.{the, first, second, join}
 use Rattle.circuit.specs.Polynomial.{Term, Polynomial, term, sameTerm, toggled}
 use Rattle.circuit.specs.Words.{wordsOf}
 use Rattle.circuit.proofs.PolynomialWords.{length-words, word-at, words-unique, toggled-words}
-use Rattle.slices.specs.Packing.{added}
+use Rattle.tables.specs.Packing.{added}
 
 -- ---- digits of a string
 

@@ -2,10 +2,9 @@
 use borrow.Author.Tests.{lt-leb, le-leb}
 use Rattle.gf2.specs.Digits.{highFirst}
 use Rattle.circuit.specs.declared.Colour.the-variants.{Blue, Green}
-use Rattle.slices.specs.Packing.{added, withOutput}
-use Rattle.slices.specs.Totals.{strings}
-use Rattle.slices.proofs.output.with_output.Statement.{statement}
-use Rattle.slices.proofs.output.with_output.Tie as tie
+use Rattle.tables.specs.Packing.{strings, added, withOutput}
+use Rattle.tables.proofs.output.with_output.Statement.{statement}
+use Rattle.tables.proofs.output.with_output.Tie as tie
 
 returns : tie.Need-returns
 returns c = λ f e. rw (lt-leb _ 16 (c .if1 .taken)) e

@@ -2,8 +2,8 @@
 use native.Mathlib.Omega.{arith}
 use Rattle.circuit.specs.Colours.{join}
 use borrow.Author.Needs.{needs}
-use Rattle.slices.proofs.output.word_of.Statement.{statement}
-use Rattle.slices.proofs.output.word_of.Tie as tie
+use Rattle.tables.proofs.output.word_of.Statement.{statement}
+use Rattle.tables.proofs.output.word_of.Tie as tie
 
 enum-told : tie.Need-enum-told
 enum-told c = search needs

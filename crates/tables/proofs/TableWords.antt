@@ -24,7 +24,7 @@ use Rattle.circuit.specs.Polynomial.{Polynomial, term}
 use Rattle.circuit.specs.Words.{wordsOf}
 use Rattle.circuit.proofs.PolynomialWords.{word-at, bit-at, moved-bit}
 use Rattle.elimination.specs.Rows.{rowsOf}
-use Rattle.slices.specs.Packing.{rowOf, rowAt, packedWord, packedRows, tableOf}
+use Rattle.tables.specs.Packing.{rowOf, rowAt, packedWord, packedRows, tableOf}
 
 -- ---- rows
 

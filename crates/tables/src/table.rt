@@ -6,7 +6,7 @@ ghost use Rattle.gf2.specs.Words.{wordOf, bitAt};
 ghost use Rattle.circuit.specs.Colours.{join};
 ghost use Rattle.circuit.specs.Polynomial.{Polynomial};
 ghost use Rattle.circuit.specs.Words.{wordsOf};
-ghost use Rattle.slices.specs.Packing.{rowOf, packedWord, tableOf};
+ghost use Rattle.tables.specs.Packing.{rowOf, packedWord, tableOf};
 use circuit::Colour;
 use circuit::INDICES;
 use circuit::polynomial::WORDS;

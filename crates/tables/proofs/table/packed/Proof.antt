@@ -1,10 +1,10 @@
 -- Each row is below 2 ^ 17, so shifted rows do not meet; the last word has two rows.
 use native.Mathlib.Omega.{arith}
 use Rattle.circuit.specs.Colours.{join}
-use Rattle.slices.proofs.TableWords.{packed-two, packed-three}
+use Rattle.tables.proofs.TableWords.{packed-two, packed-three}
 use borrow.Author.Needs.{needs}
-use Rattle.slices.proofs.table.packed.Statement.{statement}
-use Rattle.slices.proofs.table.packed.Tie as tie
+use Rattle.tables.proofs.table.packed.Statement.{statement}
+use Rattle.tables.proofs.table.packed.Tie as tie
 
 mul-row : tie.Need-mul-row
 mul-row c = search needs

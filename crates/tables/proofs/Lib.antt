@@ -1,0 +1,2 @@
+pub mod TableWords
+pub mod OutputWords
