@@ -6,14 +6,4 @@ pub mod Phase
 pub mod SignedSum
 pub mod Undo
 pub mod Colours
-pub mod HistoryCodes
-pub mod Terms
-pub mod Stores
-pub mod PolynomialWords
-pub mod Concat
-pub mod Entries
-pub mod Cells
 pub mod PolynomialTerms
-pub mod TermGates
-pub mod EveryTermOnce
-pub mod MorePositions

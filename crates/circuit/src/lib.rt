@@ -1,11 +1,7 @@
-// The gates of a three-colour circuit, and its phase polynomial in words.
+// The colours and gates of a three-colour circuit.
 ghost use mathlib.Core.Path.{_≡_};
 ghost use Rattle.circuit.specs.Colours.{numberOf, colourOf, thirdOf, sameColour};
 ghost use Rattle.circuit.specs.Sum.{isPosition, isGate};
-
-pub mod history;
-pub mod listing;
-pub mod polynomial;
 
 // A colour's indices in a term: its positions 1 to 16, and 0 where the term has none of it.
 pub const INDICES: usize = 17;
@@ -28,12 +24,6 @@ pub enum Gate {
     Cz(Spot, Spot),
     // A colour, the control and the target.
     Cnot(Colour, usize, usize),
-}
-
-// What stands at a place of the listing of terms.
-pub enum Entry {
-    Listed(Gate),
-    Nothing,
 }
 
 pub fn number_of(c: Colour) -> usize

@@ -6,8 +6,8 @@ use native.Mathlib.Omega.{arith}
 use lib.Dec.{eqb, ltb}
 use borrow.Author.Tests.{ne-eqb}
 use Rattle.held.specs.Circuit.{Circuit}
-use Rattle.lines.specs.Typed.{Typed, circuit, gate, layer, undo, start, opens, step, drop, terms, row}
-use Rattle.lines.specs.Spelling.{Reading, typed, refused}
+use Rattle.forms.specs.Typed.{Typed, circuit, gate, layer, undo, start, opens, step, drop, terms, row}
+use Rattle.forms.specs.Spelling.{Reading, typed, refused}
 use Rattle.answers.specs.declared.Answer.{Answer}
 use Rattle.answers.specs.declared.Answer.the-variants as Answer
 use Rattle.refusals.specs.Refusals.{classNumber, isClass, refusalBy}

@@ -10,14 +10,14 @@ use lib.ListN.{length}
 use borrow.Author.Tests.{eq-eqb, ne-eqb, lt-ltb, le-ltb, le-leb}
 use Rattle.circuit.specs.declared.Gate.{Gate}
 use Rattle.circuit.specs.declared.Gate.the-variants as Gate
-use Rattle.circuit.specs.declared.Entry.{Entry}
-use Rattle.circuit.specs.declared.Entry.the-variants.{Listed as ListedAt, Nothing}
+use Rattle.listing.specs.declared.Entry.{Entry}
+use Rattle.listing.specs.declared.Entry.the-variants.{Listed as ListedAt, Nothing}
 use Rattle.circuit.specs.Sum.{isGate}
 use Rattle.circuit.specs.Polynomial.{Polynomial, polynomial}
-use Rattle.circuit.specs.Words.{wordsOf}
-use Rattle.circuit.specs.Listing.{listing, entryOf}
+use Rattle.polynomial.specs.Words.{wordsOf}
+use Rattle.listing.specs.Listing.{listing, entryOf}
 use Rattle.circuit.proofs.Gates.{ccz-positions, cz-positions, cnot-positions}
-use Rattle.circuit.proofs.TermGates.{entry-gate}
+use Rattle.listing.proofs.TermGates.{entry-gate}
 use Rattle.held.specs.Memory.{encodeCircuit}
 use Rattle.lines.specs.Readings.{readingOf}
 use Rattle.answers.specs.declared.Answer.{Answer}

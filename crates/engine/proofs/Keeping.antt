@@ -16,8 +16,8 @@ use Rattle.held.specs.Circuit.{Circuit, allZeros, newCircuit, withGates, withou
 use Rattle.held.specs.Memory.{stored, SoundCircuit, Stored}
 use Rattle.held.proofs.GateHistory.{stored-none, stored-more, length-stored, codes-front}
 use Rattle.held.proofs.GateLists.{gates-added, gates-left}
-use Rattle.lines.specs.Typed.{row}
-use Rattle.lines.specs.Spelling.{Reading, gatesIn}
+use Rattle.forms.specs.Typed.{row}
+use Rattle.forms.specs.Spelling.{Reading, gatesIn}
 use Rattle.lines.specs.Readings.{readingOf}
 use Rattle.answers.specs.declared.Answer.{Answer}
 use Rattle.refusals.specs.Refusals.{places}

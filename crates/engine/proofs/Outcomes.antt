@@ -7,10 +7,10 @@ use lib.Dec.{eqb, ltb}
 use lib.ListN.{length, take}
 use lib.Seq.{take-at}
 use Rattle.circuit.specs.declared.Gate.{Gate}
-use Rattle.circuit.specs.declared.Entry.{Entry}
-use Rattle.circuit.specs.declared.Entry.the-variants.{Listed as ListedAt, Nothing}
+use Rattle.listing.specs.declared.Entry.{Entry}
+use Rattle.listing.specs.declared.Entry.the-variants.{Listed as ListedAt, Nothing}
 use Rattle.circuit.specs.Polynomial.{polynomial}
-use Rattle.circuit.specs.Listing.{listing, entryOf}
+use Rattle.listing.specs.Listing.{listing, entryOf}
 use Rattle.lines.specs.Readings.{readingOf}
 use Rattle.answers.specs.declared.Answer.{Answer}
 use Rattle.answers.specs.declared.Answer.the-variants as Answer

@@ -7,7 +7,7 @@ use lib.ListN.{length, take, length-append}
 use lib.Seq.{take-append-seam}
 use Rattle.circuit.specs.declared.Gate.{Gate}
 use Rattle.held.specs.Circuit.{Circuit, withGates, withoutLast}
-use Rattle.lines.specs.Typed.{undo}
+use Rattle.forms.specs.Typed.{undo}
 use Rattle.answers.specs.declared.Answer.the-variants as Answer
 use Rattle.sums.specs.Sums.{Opened}
 use Rattle.turns.specs.Turns.{gives, accepted}

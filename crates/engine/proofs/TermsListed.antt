@@ -10,15 +10,15 @@ use lib.Dec.{ltb}
 use lib.ListN.{length, getD, take}
 use borrow.Author.Tests.{ne-eqb, le-ltb}
 use Rattle.circuit.specs.Polynomial.{Term, term, polynomial}
-use Rattle.circuit.specs.Listing.{listing, occurrences, gateOfTerm, entryOf}
-use Rattle.circuit.proofs.Entries.{entryOf-past, entryOf-getD}
-use Rattle.circuit.proofs.EveryTermOnce.{listing-once}
-use Rattle.circuit.proofs.MorePositions.{listing-16}
+use Rattle.listing.specs.Listing.{listing, occurrences, gateOfTerm, entryOf}
+use Rattle.listing.proofs.Entries.{entryOf-past, entryOf-getD}
+use Rattle.listing.proofs.EveryTermOnce.{listing-once}
+use Rattle.listing.proofs.MorePositions.{listing-16}
 use Rattle.held.specs.Circuit.{Circuit}
 use Rattle.held.specs.Memory.{SoundCircuit}
 use Rattle.text.specs.Spelling.{bytes, spelledGate}
-use Rattle.lines.specs.Typed.{terms, row}
-use Rattle.lines.specs.Spelling.{spelled, typed}
+use Rattle.forms.specs.Typed.{terms, row}
+use Rattle.forms.specs.Spelling.{spelled, typed}
 use Rattle.lines.specs.Readings.{readingOf}
 use Rattle.lines.proofs.Readings.{form-read}
 use Rattle.answers.specs.declared.Answer.the-variants as Answer

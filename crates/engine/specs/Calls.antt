@@ -6,14 +6,14 @@ use Prim.Native.Nat.{ℕ, zero, suc, _≤_}
 use lib.Dec.{eqb, ltb}
 use lib.ListN.{length}
 use Rattle.circuit.specs.declared.Gate.{Gate}
-use Rattle.circuit.specs.declared.Entry.{Entry}
-use Rattle.circuit.specs.declared.Entry.the-variants.{Listed as ListedAt, Nothing}
+use Rattle.listing.specs.declared.Entry.{Entry}
+use Rattle.listing.specs.declared.Entry.the-variants.{Listed as ListedAt, Nothing}
 use Rattle.circuit.specs.Polynomial.{polynomial}
-use Rattle.circuit.specs.Listing.{listing, entryOf}
+use Rattle.listing.specs.Listing.{listing, entryOf}
 use Rattle.held.specs.Memory.{encodeCircuit, stored, Stored}
-use Rattle.lines.specs.declared.Class.the-variants.{Lists}
-use Rattle.lines.specs.Typed.{row}
-use Rattle.lines.specs.Spelling.{Reading, typed, refused, gatesIn}
+use Rattle.forms.specs.declared.Class.the-variants.{Lists}
+use Rattle.forms.specs.Typed.{row}
+use Rattle.forms.specs.Spelling.{Reading, typed, refused, gatesIn}
 use Rattle.lines.specs.Readings.{readingOf}
 use Rattle.refusals.specs.Refusals.{isClass, places}
 use Rattle.answers.specs.declared.Answer.the-variants.{Listed}

@@ -4,8 +4,8 @@ ghost use Rattle.engine.specs.Engine.{freshEngine};
 ghost use Rattle.engine.specs.Calls.{encode, Answered, FetchAnswered};
 ghost use Rattle.engine.specs.Answering.{refusalNumber, hasLines};
 use answers::Answer;
-use circuit::Entry;
 use held::Held;
+use listing::Entry;
 use sums::Sum;
 
 // A shorter answer buffer is refusal 1: no answer has more bytes.
@@ -114,7 +114,7 @@ pub fn fetch(state: State, number: usize, buffer: &mut [u8]) -> Fetched
         return Fetched { len: 0, refusal: 0 };
     }
     let words = state.circuit.polynomial;
-    let Entry::Listed(gate) = circuit::listing::entry(words, number - 1) else {
+    let Entry::Listed(gate) = listing::term_at(words, number - 1) else {
         return Fetched { len: 0, refusal: 0 };
     };
     let len = answers::write(Answer::Listed(gate), buffer);

@@ -8,7 +8,7 @@ use lib.ListN.{length, getD, take, drop, set, length-append, length-take, length
 use lib.Seq.{drop-cons, set-at, getD-at, getD-take, take-at, take-take, length-take-le}
 use Rattle.gf2.proofs.Lists.{take-map}
 use Rattle.circuit.specs.declared.Gate.{Gate}
-use Rattle.circuit.specs.History.{codeOf}
+use Rattle.history.specs.History.{codeOf}
 use Rattle.held.specs.Memory.{stored, Stored}
 
 -- ---- gates put in

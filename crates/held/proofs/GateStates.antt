@@ -10,10 +10,10 @@ use borrow.Author.Tests.{lt-ltb, le-ltb}
 use Rattle.circuit.specs.declared.Gate.{Gate}
 use Rattle.circuit.specs.Sum.{isGate, areGates}
 use Rattle.circuit.specs.Polynomial.{Polynomial, empty, applied, polynomial}
-use Rattle.circuit.specs.Words.{wordsOf, taken}
-use Rattle.circuit.specs.History.{codeOf, gateOf}
+use Rattle.polynomial.specs.Words.{wordsOf, taken}
+use Rattle.history.specs.History.{codeOf, gateOf}
 use Rattle.circuit.proofs.Undo.{applied-append, taken-back}
-use Rattle.circuit.proofs.HistoryCodes.{gateOf-codeOf}
+use Rattle.history.proofs.HistoryCodes.{gateOf-codeOf}
 use Rattle.held.specs.declared.Held.{Held}
 use Rattle.held.specs.Circuit.{Circuit, withGates, withoutLast}
 use Rattle.held.specs.Memory.{encodeCircuit, Stored, hasRoom, withGate, withCode}

@@ -9,8 +9,8 @@ use Rattle.gf2.specs.Words.{numberOfBits}
 use Rattle.circuit.specs.declared.Gate.{Gate}
 use Rattle.circuit.specs.Sum.{Basis, isGate, areGates}
 use Rattle.circuit.specs.Polynomial.{polynomial}
-use Rattle.circuit.specs.Words.{wordsOf}
-use Rattle.circuit.specs.History.{codeOf}
+use Rattle.polynomial.specs.Words.{wordsOf}
+use Rattle.history.specs.History.{codeOf}
 use Rattle.held.specs.declared.Numbers.{Numbers}
 use Rattle.held.specs.declared.Held.{Held}
 use Rattle.held.specs.Circuit.{Circuit, withGates}

@@ -6,7 +6,7 @@ ghost use Rattle.circuit.specs.Sum.{Basis, areGates};
 ghost use Rattle.held.specs.Circuit.{Circuit, newCircuit, withoutLast, withNewStart};
 ghost use Rattle.held.specs.Memory.{numbersOf, encodeCircuit, Stored, withGate, withCode};
 use circuit::Gate;
-use circuit::polynomial::WORDS;
+use polynomial::WORDS;
 
 // The positions of the largest circuit.
 const MOST_POSITIONS: usize = 16;
@@ -39,7 +39,7 @@ pub fn empty(m: usize) -> Held
             blue: 0,
             green: 0,
         },
-        polynomial: circuit::polynomial::empty(),
+        polynomial: polynomial::empty(),
     }
 }
 
@@ -65,9 +65,9 @@ pub fn take_gate(held: Held, history: &mut [u32], g: Gate) -> Held
         return held;
     }
     let count = at + 1;
-    history[at] = circuit::history::code(g);
+    history[at] = history::code(g);
     let words = held.polynomial;
-    let next_words = circuit::polynomial::apply(words, g);
+    let next_words = polynomial::apply(words, g);
     let mut next = held;
     next.polynomial = next_words;
     next.count = count;
@@ -87,9 +87,9 @@ fn take_back(held: Held, history: &[u32]) -> Held
     if history.len() <= at {
         return held;
     }
-    let gate = circuit::history::gate(history[at]);
+    let gate = history::gate(history[at]);
     let words = held.polynomial;
-    let earlier_words = circuit::polynomial::apply(words, gate);
+    let earlier_words = polynomial::apply(words, gate);
     let mut next = held;
     next.polynomial = earlier_words;
     next.count = at;

@@ -12,8 +12,8 @@ use Rattle.circuit.specs.declared.Gate.{Gate}
 use Rattle.circuit.specs.declared.Gate.the-variants.{Ccz, Cz, Cnot}
 use Rattle.text.specs.Spelling.{bytes, decimal, letter, bitDigits, spelledSpot, spelledGate}
 use Rattle.text.proofs.Decimal.{Digits, decimal-digits}
-use Rattle.lines.specs.Typed.{amp, part, Typed, circuit, gate, layer, undo, start, opens, step, drop as dropped, terms}
-use Rattle.lines.specs.Spelling.{spelledGates, spelledBits, spelled, isAllowed, allAllowed}
+use Rattle.forms.specs.Typed.{amp, part, Typed, circuit, gate, layer, undo, start, opens, step, drop as dropped, terms}
+use Rattle.forms.specs.Spelling.{spelledGates, spelledBits, spelled, isAllowed, allAllowed}
 
 abbrev Allowed : List ℕ → Type 0
 Allowed l = allAllowed l ≡ true

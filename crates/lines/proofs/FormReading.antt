@@ -14,15 +14,16 @@ use Rattle.text.specs.Reading.{readKeyword}
 use Rattle.text.proofs.ItemsSpelled.{colour-then}
 use Rattle.text.proofs.ItemCases.{keyword-cases, colour-cases}
 use Rattle.gates.specs.Gates.{heldGate, layerGates}
-use Rattle.lines.specs.declared.Form.{Form}
-use Rattle.lines.specs.declared.Form.the-variants as Form
-use Rattle.lines.specs.declared.forms.Numbered.the-variants.{Circuit, Undo, Step}
-use Rattle.lines.specs.Typed.{amp, part, Typed, circuit, gate, layer, undo, start, opens, step, drop as dropped, terms, stringsOf, row}
-use Rattle.lines.specs.Spelling.{spelled, allSome, Spells, colourTwice, anyColourTwice}
-use Rattle.lines.specs.Held.{held}
-use Rattle.lines.specs.Forms.{numberedForm, numberFrom, startFrom, ampFrom, partFrom, layerFrom, workShape, stringsShape, shapeOf}
-use Rattle.lines.proofs.LayerSpelling.{Gates, layer-read, layer-spelled, gates-read}
-use Rattle.lines.proofs.FormSpelling.{ended-read, number-form-read, two-strings-read, three-strings-read, gate-line-read, ended-cases, number-form-cases, two-strings-cases, three-strings-cases, gate-line-cases}
+use Rattle.forms.specs.declared.Form.{Form}
+use Rattle.forms.specs.declared.Form.the-variants as Form
+use Rattle.forms.specs.declared.Numbered.the-variants.{Circuit, Undo, Step}
+use Rattle.forms.specs.Typed.{amp, part, Typed, circuit, gate, layer, undo, start, opens, step, drop as dropped, terms, stringsOf, row}
+use Rattle.forms.specs.Spelling.{spelled, allSome, Spells, colourTwice, anyColourTwice}
+use Rattle.forms.specs.Held.{held}
+use Rattle.forms.specs.Forms.{numberedForm, numberFrom, startFrom, ampFrom, partFrom, layerFrom}
+use Rattle.lines.specs.Shapes.{workShape, stringsShape, shapeOf}
+use Rattle.forms.proofs.LayerSpelling.{Gates, layer-read, layer-spelled, gates-read}
+use Rattle.forms.proofs.FormSpelling.{ended-read, number-form-read, two-strings-read, three-strings-read, gate-line-read, ended-cases, number-form-cases, two-strings-cases, three-strings-cases, gate-line-cases}
 
 -- ---- what is spelled is read
 

@@ -7,14 +7,14 @@ use Rattle.gf2.proofs.Impossible.{never}
 use Rattle.circuit.specs.declared.Gate.{Gate}
 use Rattle.gates.specs.Gates.{heldGate, layerGates, gatesMet}
 use Rattle.gates.proofs.LayerWalk.{layer-begins, walk-all}
-use Rattle.lines.specs.declared.Form.the-variants as Form
-use Rattle.lines.specs.Typed.{Typed, layer}
-use Rattle.lines.specs.Spelling.{Reading, typed, refused}
+use Rattle.forms.specs.declared.Form.the-variants as Form
+use Rattle.forms.specs.Typed.{Typed, layer}
+use Rattle.forms.specs.Spelling.{Reading, typed, refused}
 use Rattle.lines.specs.Readings.{readingOf}
-use Rattle.lines.specs.Held.{heldReading}
+use Rattle.forms.specs.Held.{heldReading}
 use Rattle.lines.proofs.FormReading.{layer-gates}
 use Rattle.lines.proofs.Readings.{form-read}
-use Rattle.lines.proofs.HeldForms.{HeldAs, layers, held-as}
+use Rattle.forms.proofs.HeldForms.{HeldAs, layers, held-as}
 
 -- The gates of a line that is read as a layer, as the line hands them on.
 pub handed-on : (l : List ℕ) (gs : List Gate) → readingOf l ≡ typed (layer gs) → layerGates l ≡ map heldGate gs

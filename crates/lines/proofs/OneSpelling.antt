@@ -10,8 +10,8 @@ use Rattle.text.specs.Spelling.{bytes, spelledGate, begins}
 use Rattle.text.proofs.Decimal.{value-decimal}
 use Rattle.text.proofs.BitDigits.{front-bits, after-bits}
 use Rattle.text.proofs.GatesUnique.{colour-of-letter, gate-of-spelled, gate-of-line}
-use Rattle.lines.specs.Typed.{amp, part, Typed, circuit, gate, layer, undo, start, opens, step, drop as dropped, terms}
-use Rattle.lines.specs.Spelling.{spelledGates, spelledBits, spelled}
+use Rattle.forms.specs.Typed.{amp, part, Typed, circuit, gate, layer, undo, start, opens, step, drop as dropped, terms}
+use Rattle.forms.specs.Spelling.{spelledGates, spelledBits, spelled}
 use Rattle.lines.specs.Readings.{gatesAfter, typedOf}
 
 -- A layer's gates.

@@ -12,13 +12,13 @@ use borrow.Author.Tests.{ltb-true, ltb-false, lt-ltb, le-ltb}
 use Rattle.gf2.proofs.Bits.{and-both}
 use Rattle.text.specs.Spelling.{sameBytes}
 use Rattle.text.proofs.SameBytes.{same-itself, same-equal}
-use Rattle.lines.specs.declared.Form.{Form}
-use Rattle.lines.specs.declared.Form.the-variants as Form
-use Rattle.lines.specs.Typed.{Typed, row}
-use Rattle.lines.specs.Spelling.{spelled, allSome, Spells, Reading, typed, refused, allAllowed, anyColourTwice}
+use Rattle.forms.specs.declared.Form.{Form}
+use Rattle.forms.specs.declared.Form.the-variants as Form
+use Rattle.forms.specs.Typed.{Typed, row}
+use Rattle.forms.specs.Spelling.{spelled, allSome, Spells, Reading, typed, refused, allAllowed, anyColourTwice}
 use Rattle.lines.specs.Readings.{typedOf, shapeAs, readingOf}
-use Rattle.lines.specs.Held.{heldReading}
-use Rattle.lines.specs.Forms.{shapeOf}
+use Rattle.forms.specs.Held.{heldReading}
+use Rattle.lines.specs.Shapes.{shapeOf}
 use Rattle.lines.proofs.AllowedSpelling.{spelled-allowed}
 use Rattle.lines.proofs.FormReading.{readAs, read-spelled, spelled-read}
 use Rattle.lines.proofs.OneSpelling.{typed-of-spelled}

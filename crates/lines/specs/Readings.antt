@@ -8,8 +8,8 @@ use lib.ListN.{length, getD, drop}
 use Rattle.circuit.specs.declared.Gate.{Gate}
 use Rattle.text.specs.Spelling.{bytes, sameBytes, spelledGate, begins}
 use Rattle.text.specs.Items.{valueFrom, frontBits, pastBits, colourOf, gateOf}
-use Rattle.lines.specs.Typed.{amp, part, Typed, circuit, gate, layer, undo, start, opens, step, drop as dropped, terms, row}
-use Rattle.lines.specs.Spelling.{spelled, allSome, Reading, typed, refused, allAllowed, anyColourTwice}
+use Rattle.forms.specs.Typed.{amp, part, Typed, circuit, gate, layer, undo, start, opens, step, drop as dropped, terms, row}
+use Rattle.forms.specs.Spelling.{spelled, allSome, Reading, typed, refused, allAllowed, anyColourTwice}
 
 -- The gates of a layer, each after a space: `skip` bytes of the last one are still to be passed.
 unfoldable pub gatesAfter : ℕ → List ℕ → List Gate

@@ -1,50 +1,16 @@
 // A line read as a form: refusals 2 to 5 (Manual 7.3, 7.4).
 ghost use mathlib.Core.Path.{_≡_};
-ghost use Rattle.lines.specs.Forms.{workShape, stringsShape, shapeOf};
-ghost use Rattle.lines.specs.Held.{heldReading};
-ghost use Rattle.lines.specs.Spelling.{isAllowed, allAllowed};
+ghost use Rattle.lines.specs.Shapes.{workShape, stringsShape, shapeOf};
+ghost use Rattle.forms.specs.Held.{heldReading};
+ghost use Rattle.forms.specs.Spelling.{isAllowed, allAllowed};
 ghost use Rattle.lines.specs.Readings.{readingOf};
-use crate::forms::Numbered;
-use circuit::Colour;
-use circuit::Spot;
-use text::Bits;
+use forms::Form;
+use forms::Numbered;
 use text::KeywordAt;
 use text::read_keyword;
 
-mod forms;
-
 // The bytes of the longest line that is read, line feed not counted.
 const LONGEST: usize = 1024;
-
-// The twelve forms with their operands, and the refusal of a line that is none of them.
-pub enum Form {
-    Circuit(usize),
-    Ccz(usize, usize, usize),
-    Cz(Spot, Spot),
-    Cnot(Colour, usize, usize),
-    // How many gates the layer has.
-    Layer(usize),
-    Undo(usize),
-    Start(Bits, Bits, Bits),
-    Amp(Colour, Bits, Bits, Bits),
-    Part(Colour, Bits, Bits),
-    Step(usize),
-    Drop,
-    Terms,
-    Refused(u8),
-}
-
-// What a form is there for.
-pub enum Class {
-    Creates,
-    Builds,
-    TakesBack,
-    Starts,
-    Opens,
-    Steps,
-    Drops,
-    Lists,
-}
 
 // Digits, a to z, brackets and space (Manual 7.3).
 fn allowed(b: u8) -> bool

@@ -5,7 +5,7 @@ use mathlib.Core.List.{List, [], _∷_, map}
 use lib.ListN.{replicate}
 use Rattle.circuit.specs.declared.Gate.the-variants.{Ccz}
 use Rattle.circuit.specs.Sum.{isPosition}
-use Rattle.lines.specs.Typed.{Typed, circuit, gate, layer, undo, step, row}
+use Rattle.forms.specs.Typed.{Typed, circuit, gate, layer, undo, step, row}
 use Rattle.refusals.specs.Refusals.{orElse, refusedIf, within, inRange, allInRange, onItself, anyOnItself, outOfRange, anyNotLong, operandRefusal}
 
 -- What the place Operands gives for some forms, in a circuit of two positions.

@@ -13,10 +13,10 @@ use Rattle.circuit.specs.declared.Gate.the-variants as Gate
 use Rattle.circuit.proofs.Gate.{the-type as gate-type}
 use Rattle.gates.specs.declared.GateAt.the-variants.{Read as GateRead, Missing as NoGate}
 use Rattle.gates.specs.Gates.{layerGateAt, gatesMet}
-use Rattle.lines.specs.declared.Class.{Class}
-use Rattle.lines.specs.declared.Class.the-variants.{Creates, Builds, TakesBack, Starts, Opens, Steps, Drops, Lists}
-use Rattle.lines.proofs.Class.{the-type as class-type}
-use Rattle.lines.specs.Typed.{Row}
+use Rattle.forms.specs.declared.Class.{Class}
+use Rattle.forms.specs.declared.Class.the-variants.{Creates, Builds, TakesBack, Starts, Opens, Steps, Drops, Lists}
+use Rattle.forms.proofs.Class.{the-type as class-type}
+use Rattle.forms.specs.Typed.{Row}
 use Rattle.refusals.specs.Refusals.{orElse, refusedIf, classNumber, within, inRange, onItself, allInRange, anyOnItself, outOfRange, operandRefusal}
 
 -- A refusal that was found is the answer, whatever comes after it.

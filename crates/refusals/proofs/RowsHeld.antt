@@ -17,12 +17,12 @@ use Rattle.circuit.specs.Sum.{isPosition}
 use Rattle.text.specs.Reading.{capped, heldBits}
 use Rattle.text.proofs.Capped.{capped-exact}
 use Rattle.gates.specs.Gates.{heldGate}
-use Rattle.lines.specs.declared.Class.{Class}
-use Rattle.lines.specs.declared.Class.the-variants as Class
-use Rattle.lines.specs.Typed.{Asked, amp, part, Typed, circuit, gate, layer, undo, start, opens, step, drop, terms, numbered, bare, building, stringsOf, row}
-use Rattle.lines.specs.Spelling.{Reading, typed, refused}
+use Rattle.forms.specs.declared.Class.{Class}
+use Rattle.forms.specs.declared.Class.the-variants as Class
+use Rattle.forms.specs.Typed.{Asked, amp, part, Typed, circuit, gate, layer, undo, start, opens, step, drop, terms, numbered, bare, building, stringsOf, row}
+use Rattle.forms.specs.Spelling.{Reading, typed, refused}
 use Rattle.lines.specs.Readings.{readingOf}
-use Rattle.lines.specs.Held.{gateForm, held, heldReading}
+use Rattle.forms.specs.Held.{gateForm, held, heldReading}
 use Rattle.lines.proofs.LayerLine.{handed-on, layer-walked}
 use Rattle.refusals.specs.declared.rows.Strings.{Strings}
 use Rattle.refusals.specs.declared.rows.Strings.the-variants as Strings

@@ -9,11 +9,11 @@ use Rattle.circuit.specs.declared.Gate.{Gate}
 use Rattle.circuit.specs.declared.Gate.the-variants as Gate
 use Rattle.text.specs.declared.Bits.{Bits}
 use Rattle.gates.specs.Gates.{heldGate, gatesMet}
-use Rattle.lines.specs.declared.Class.{Class}
-use Rattle.lines.specs.declared.Class.the-variants as Class
-use Rattle.lines.specs.declared.Form.{Form}
-use Rattle.lines.specs.declared.Form.the-variants as Form
-use Rattle.lines.specs.Typed.{Typed, row}
+use Rattle.forms.specs.declared.Class.{Class}
+use Rattle.forms.specs.declared.Class.the-variants as Class
+use Rattle.forms.specs.declared.Form.{Form}
+use Rattle.forms.specs.declared.Form.the-variants as Form
+use Rattle.forms.specs.Typed.{Typed, row}
 use Rattle.refusals.specs.declared.rows.Strings.{Strings}
 use Rattle.refusals.specs.declared.rows.Strings.the-variants as Strings
 use Rattle.refusals.specs.declared.rows.Gates.{Gates}

@@ -9,10 +9,10 @@ use Rattle.gf2.specs.Strings.{BitString}
 use Rattle.circuit.specs.declared.Gate.{Gate}
 use Rattle.circuit.specs.declared.Gate.the-variants as Gate
 use Rattle.circuit.specs.Sum.{isPosition}
-use Rattle.lines.specs.declared.Class.{Class}
-use Rattle.lines.specs.declared.Class.the-variants.{Creates, Builds, TakesBack, Starts, Opens, Steps, Drops, Lists}
-use Rattle.lines.specs.Typed.{Row, row}
-use Rattle.lines.specs.Spelling.{Reading, typed, refused}
+use Rattle.forms.specs.declared.Class.{Class}
+use Rattle.forms.specs.declared.Class.the-variants.{Creates, Builds, TakesBack, Starts, Opens, Steps, Drops, Lists}
+use Rattle.forms.specs.Typed.{Row, row}
+use Rattle.forms.specs.Spelling.{Reading, typed, refused}
 
 -- The number of the second test if the first finds none.
 unfoldable pub orElse : ℕ → ℕ → ℕ

@@ -1,10 +1,10 @@
 // A line read, and all places tried at which it can be turned back.
 ghost use mathlib.Core.Path.{_≡_};
 ghost use Prim.Native.Nat.{min};
-ghost use Rattle.lines.specs.Held.{heldReading};
+ghost use Rattle.forms.specs.Held.{heldReading};
 ghost use Rattle.lines.specs.Readings.{readingOf};
 ghost use Rattle.refusals.specs.Refusals.{refusalBy};
-use lines::Form;
+use forms::Form;
 
 mod places;
 mod rows;

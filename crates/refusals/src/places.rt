@@ -6,10 +6,10 @@ ghost use lib.Dec.{ltb};
 ghost use mathlib.Core.List.{List};
 ghost use Rattle.circuit.specs.Sum.{isPosition};
 ghost use Rattle.gates.specs.Gates.{gatesMet};
-ghost use Rattle.lines.specs.declared.Class.the-variants as Class;
-ghost use Rattle.lines.specs.Held.{heldReading};
+ghost use Rattle.forms.specs.declared.Class.the-variants as Class;
+ghost use Rattle.forms.specs.Held.{heldReading};
 ghost use Rattle.lines.specs.Readings.{readingOf};
-ghost use Rattle.lines.specs.Typed.{Typed, row as typedRow};
+ghost use Rattle.forms.specs.Typed.{Typed, row as typedRow};
 ghost use Rattle.refusals.specs.HeldRows.{notLong, wrongLength, metGates, countOf, Tells};
 ghost use Rattle.refusals.specs.Refusals.{isClass, works, momentRefusal, inRange, onItself, allInRange, anyOnItself, within, operandRefusal, places, historyRefusal, rowRefusal, refusalBy};
 use crate::rows::FormRow;
@@ -18,9 +18,9 @@ use crate::rows::HeldRow;
 use crate::rows::Strings;
 use crate::rows::row_of;
 use circuit::Gate;
+use forms::Class;
+use forms::Form;
 use gates::GateAt;
-use lines::Class;
-use lines::Form;
 use text::Bits;
 
 fn creates(class: Class) -> bool

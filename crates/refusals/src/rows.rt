@@ -2,8 +2,8 @@
 ghost use mathlib.Core.Path.{_≡_};
 ghost use Rattle.refusals.specs.HeldRows.{numberedRow, stringRow, gateRow, heldRow};
 use circuit::Gate;
-use lines::Class;
-use lines::Form;
+use forms::Class;
+use forms::Form;
 use text::Bits;
 
 pub(crate) enum Strings {

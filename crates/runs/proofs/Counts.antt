@@ -21,7 +21,7 @@ use Rattle.slices.proofs.Rank.{tally-cong}
 use Rattle.slices.proofs.Readout.{readout-squares, readout-total}
 use Rattle.held.specs.Circuit.{allZeros}
 use Rattle.held.specs.Memory.{Long}
-use Rattle.lines.specs.Typed.{part}
+use Rattle.forms.specs.Typed.{part}
 use Rattle.sums.specs.Tables.{output}
 use Rattle.runs.specs.Runs.{square, Exact}
 

@@ -10,8 +10,8 @@ use Rattle.circuit.specs.Sum.{Basis}
 use Rattle.circuit.specs.Polynomial.{polynomial}
 use Rattle.slices.specs.Totals.{amplitudeAfter, readoutCount, withStart}
 use Rattle.held.specs.Circuit.{Circuit}
-use Rattle.lines.specs.Typed.{Asked, amp, part}
-use Rattle.lines.specs.Spelling.{Reading}
+use Rattle.forms.specs.Typed.{Asked, amp, part}
+use Rattle.forms.specs.Spelling.{Reading}
 use Rattle.answers.specs.declared.Answer.{Answer}
 use Rattle.answers.specs.declared.Answer.the-variants as Answer
 use Rattle.sums.specs.Sums.{OpenSum, Opened, running, totalAfter, ended}

@@ -6,8 +6,8 @@ use mathlib.Core.List.{List, [], _∷_}
 use Prim.Native.Nat.{ℕ, suc, _≤_}
 use Rattle.text.specs.Spelling.{sameBytes, begins}
 use Rattle.held.specs.Circuit.{Circuit}
-use Rattle.lines.specs.Typed.{Asked, amp, part, row}
-use Rattle.lines.specs.Spelling.{Reading}
+use Rattle.forms.specs.Typed.{Asked, amp, part, row}
+use Rattle.forms.specs.Spelling.{Reading}
 use Rattle.lines.specs.Readings.{readingOf}
 use Rattle.answers.specs.declared.Answer.{Answer}
 use Rattle.answers.specs.declared.Answer.the-variants as Answer

@@ -10,7 +10,7 @@ use Rattle.circuit.specs.declared.Gate.{Gate}
 use Rattle.slices.proofs.Amplitude.{amplitude-is-signedSum}
 use Rattle.held.specs.Circuit.{Circuit, allZeros}
 use Rattle.held.specs.Memory.{Long}
-use Rattle.lines.specs.Typed.{part}
+use Rattle.forms.specs.Typed.{part}
 use Rattle.answers.specs.declared.Answer.{Answer}
 use Rattle.answers.specs.declared.Answer.the-variants as Answer
 use Rattle.answers.specs.Answers.{bytesOf}

@@ -10,9 +10,9 @@ use Rattle.gf2.proofs.Impossible.{never}
 use Rattle.gf2.specs.Strings.{BitString}
 use Rattle.circuit.specs.declared.Colour.{Colour}
 use Rattle.text.specs.Spelling.{sameBytes, begins}
-use Rattle.lines.specs.declared.Class.the-variants as Class
-use Rattle.lines.specs.Typed.{Asked, amp, part, opens, step, row}
-use Rattle.lines.specs.Spelling.{Reading, typed, refused}
+use Rattle.forms.specs.declared.Class.the-variants as Class
+use Rattle.forms.specs.Typed.{Asked, amp, part, opens, step, row}
+use Rattle.forms.specs.Spelling.{Reading, typed, refused}
 use Rattle.lines.specs.Readings.{readingOf}
 use Rattle.refusals.specs.Refusals.{classNumber, isClass}
 use Rattle.answers.specs.declared.Answer.{Answer}

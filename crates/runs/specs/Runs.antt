@@ -15,10 +15,10 @@ use Rattle.slices.specs.Rank.{tally}
 use Rattle.slices.specs.Totals.{withStart}
 use Rattle.held.specs.Circuit.{Circuit, allZeros, newCircuit, withGates, withoutLast, withNewStart}
 use Rattle.text.specs.Spelling.{bytes, sameBytes, begins}
-use Rattle.lines.specs.declared.Class.{Class}
-use Rattle.lines.specs.declared.Class.the-variants.{Creates, Builds, TakesBack, Starts, Opens, Steps, Drops, Lists}
-use Rattle.lines.specs.Typed.{Asked, amp, part, opens, step, Row, row}
-use Rattle.lines.specs.Spelling.{Reading, typed, refused}
+use Rattle.forms.specs.declared.Class.{Class}
+use Rattle.forms.specs.declared.Class.the-variants.{Creates, Builds, TakesBack, Starts, Opens, Steps, Drops, Lists}
+use Rattle.forms.specs.Typed.{Asked, amp, part, opens, step, Row, row}
+use Rattle.forms.specs.Spelling.{Reading, typed, refused}
 use Rattle.lines.specs.Readings.{readingOf}
 use Rattle.refusals.specs.Refusals.{isClass}
 use Rattle.answers.specs.declared.Answer.{Answer}

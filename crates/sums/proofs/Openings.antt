@@ -17,13 +17,13 @@ use Rattle.circuit.specs.declared.Colour.{Colour}
 use Rattle.circuit.specs.Colours.{join}
 use Rattle.circuit.specs.Polynomial.{Polynomial, polynomial}
 use Rattle.circuit.specs.Sum.{Basis}
-use Rattle.circuit.specs.Words.{wordsOf}
+use Rattle.polynomial.specs.Words.{wordsOf}
 use Rattle.tables.specs.Packing.{strings, withOutput, tableOf}
 use Rattle.slices.specs.Totals.{withStart, amplitudeAfter, tallyBelow, readoutAfter}
 use Rattle.held.specs.declared.Held.{Held}
 use Rattle.held.specs.Circuit.{Circuit}
 use Rattle.held.specs.Memory.{numbersOf, encodeCircuit, SoundCircuit}
-use Rattle.lines.specs.Typed.{Asked, amp, part}
+use Rattle.forms.specs.Typed.{Asked, amp, part}
 use Rattle.sums.specs.declared.Total.the-variants.{Amplitude, Readout}
 use Rattle.sums.specs.Tables.{sliced, output, tableFor}
 use Rattle.sums.specs.Sums.{totalAfter, encodeSum, opening}

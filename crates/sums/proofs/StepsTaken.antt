@@ -9,7 +9,7 @@ use borrow.Author.Tests.{lt-ltb, le-ltb, le-leb, leb-true}
 use Rattle.answers.specs.declared.Answer.{Answer}
 use Rattle.answers.specs.declared.Answer.the-variants as Answer
 use Rattle.held.specs.Circuit.{Circuit}
-use Rattle.lines.specs.Typed.{Asked}
+use Rattle.forms.specs.Typed.{Asked}
 use Rattle.sums.specs.declared.Total.{Total}
 use Rattle.sums.specs.declared.Sum.{Sum}
 use Rattle.sums.specs.Tables.{tableFor}

@@ -28,7 +28,7 @@ use Rattle.slices.proofs.OutcomeTests.{abs-fits}
 use Rattle.slices.proofs.SliceTotals.{amplitude-continued, readout-continued}
 use Rattle.held.specs.Circuit.{Circuit}
 use Rattle.held.specs.Memory.{Long, SoundCircuit}
-use Rattle.lines.specs.Typed.{Asked, amp, part}
+use Rattle.forms.specs.Typed.{Asked, amp, part}
 use Rattle.sums.specs.declared.Total.{Total}
 use Rattle.sums.specs.declared.Total.the-variants.{Closed, Amplitude, Readout}
 use Rattle.sums.specs.Tables.{sliced, output, tableFor}

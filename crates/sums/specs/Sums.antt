@@ -8,7 +8,7 @@ use Rattle.circuit.specs.Colours.{first, second}
 use Rattle.circuit.specs.Polynomial.{polynomial}
 use Rattle.slices.specs.Totals.{amplitudeAfter, readoutAfter, withStart}
 use Rattle.held.specs.Circuit.{Circuit}
-use Rattle.lines.specs.Typed.{Asked, amp, part}
+use Rattle.forms.specs.Typed.{Asked, amp, part}
 use Rattle.answers.specs.declared.Answer.{Answer}
 use Rattle.answers.specs.declared.Answer.the-variants as Answer
 use Rattle.sums.specs.declared.Total.{Total}

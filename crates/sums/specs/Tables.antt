@@ -9,7 +9,7 @@ use Rattle.circuit.specs.Polynomial.{polynomial}
 use Rattle.tables.specs.Packing.{withOutput, tableOf}
 use Rattle.slices.specs.Totals.{withStart}
 use Rattle.held.specs.Circuit.{Circuit}
-use Rattle.lines.specs.Typed.{Asked, amp, part}
+use Rattle.forms.specs.Typed.{Asked, amp, part}
 
 -- The colour that a sum is sliced on.
 unfoldable pub sliced : Asked → Colour

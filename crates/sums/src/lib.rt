@@ -6,7 +6,7 @@ ghost use lib.Dec.{leb};
 ghost use Rattle.gf2.specs.Digits.{highFirst};
 ghost use Rattle.held.specs.Circuit.{Circuit};
 ghost use Rattle.held.specs.Memory.{encodeCircuit, SoundCircuit};
-ghost use Rattle.lines.specs.Typed.{Asked, amp, part};
+ghost use Rattle.forms.specs.Typed.{Asked, amp, part};
 ghost use Rattle.sums.specs.Tables.{sliced, output, tableFor};
 ghost use Rattle.sums.specs.Sums.{OpenSum, Opened, closed, running, isRunning, totalAfter, encodeSum, ended, opening, stepped, stepAnswer};
 ghost use Rattle.sums.specs.Soundness.{SoundSum, SoundOpened};

@@ -19,8 +19,8 @@ use Rattle.circuit.specs.declared.Colour.{Colour}
 use Rattle.circuit.specs.declared.Colour.the-variants.{Red, Blue, Green}
 use Rattle.circuit.specs.Colours.{the, first, second, join}
 use Rattle.circuit.specs.Polynomial.{Term, Polynomial, term, sameTerm, toggled}
-use Rattle.circuit.specs.Words.{wordsOf}
-use Rattle.circuit.proofs.PolynomialWords.{length-words, word-at, words-unique, toggled-words}
+use Rattle.polynomial.specs.Words.{wordsOf}
+use Rattle.polynomial.proofs.PolynomialWords.{length-words, word-at, words-unique, toggled-words}
 use Rattle.tables.specs.Packing.{added}
 
 -- ---- digits of a string

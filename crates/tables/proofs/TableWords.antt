@@ -21,8 +21,8 @@ use Rattle.circuit.specs.declared.Colour.{Colour}
 use Rattle.circuit.specs.declared.Colour.the-variants.{Red, Blue, Green}
 use Rattle.circuit.specs.Colours.{join}
 use Rattle.circuit.specs.Polynomial.{Polynomial, term}
-use Rattle.circuit.specs.Words.{wordsOf}
-use Rattle.circuit.proofs.PolynomialWords.{word-at, bit-at, moved-bit}
+use Rattle.polynomial.specs.Words.{wordsOf}
+use Rattle.polynomial.proofs.PolynomialWords.{word-at, bit-at, moved-bit}
 use Rattle.elimination.specs.Rows.{rowsOf}
 use Rattle.tables.specs.Packing.{rowOf, rowAt, packedWord, packedRows, tableOf}
 

@@ -6,10 +6,10 @@ ghost use Prim.Native.Nat.{_+_, _*_, _≤_, _<_};
 ghost use Rattle.gf2.specs.Digits.{highFirst};
 ghost use Rattle.circuit.specs.Colours.{join};
 ghost use Rattle.circuit.specs.Polynomial.{Polynomial};
-ghost use Rattle.circuit.specs.Words.{wordsOf};
+ghost use Rattle.polynomial.specs.Words.{wordsOf};
 ghost use Rattle.tables.specs.Packing.{strings, added, withOutput};
 use circuit::Colour;
-use circuit::polynomial::WORDS;
+use polynomial::WORDS;
 
 // The word of the term that holds position `p` of a colour alone.
 fn word_of(colour: Colour, p: usize) -> usize

@@ -5,11 +5,11 @@ ghost use lib.ListN.{getD};
 ghost use Rattle.gf2.specs.Words.{wordOf, bitAt};
 ghost use Rattle.circuit.specs.Colours.{join};
 ghost use Rattle.circuit.specs.Polynomial.{Polynomial};
-ghost use Rattle.circuit.specs.Words.{wordsOf};
+ghost use Rattle.polynomial.specs.Words.{wordsOf};
 ghost use Rattle.tables.specs.Packing.{rowOf, packedWord, tableOf};
 use circuit::Colour;
 use circuit::INDICES;
-use circuit::polynomial::WORDS;
+use polynomial::WORDS;
 
 // The words of a table: the packed rows of each index of a colour.
 pub const TABLE: usize = INDICES * elimination::WORDS;

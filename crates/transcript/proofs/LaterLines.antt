@@ -10,7 +10,7 @@ use Rattle.circuit.specs.declared.Colour.the-variants.{Red, Blue, Green}
 use Rattle.circuit.specs.declared.Gate.{Gate}
 use Rattle.circuit.specs.declared.Gate.the-variants.{Ccz, Cz, Cnot}
 use Rattle.circuit.specs.Polynomial.{Term, Polynomial, polynomial}
-use Rattle.circuit.specs.Listing.{overPositions, triples, pairsBeside, everyTerm, among, listing, gatesOf as gatesIn, entryOf}
+use Rattle.listing.specs.Listing.{overPositions, triples, pairsBeside, everyTerm, among, listing, gatesOf as gatesIn, entryOf}
 use Rattle.text.specs.Spelling.{spelledGate}
 use Rattle.answers.specs.Answers.{bytesOf}
 use Rattle.engine.specs.Engine.{Engine}

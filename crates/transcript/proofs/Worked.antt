@@ -6,13 +6,13 @@ use Rattle.gf2.specs.Digits.{bitOf, odd, highFirst}
 use Rattle.circuit.specs.Colours.{the, first, second, join, put}
 use Rattle.circuit.specs.Sum.{isPosition, at, isGate, areGates}
 use Rattle.circuit.specs.Polynomial.{term, sameTerm, empty, toggled, substituted, pair, applied, appliedAll, polynomial, product, parityAll, value}
-use Rattle.circuit.specs.Listing.{overPositions, triples, pairsBeside, everyTerm, among, listing, gateOfTerm, gatesOf}
+use Rattle.listing.specs.Listing.{overPositions, triples, pairsBeside, everyTerm, among, listing, gateOfTerm, gatesOf}
 use Rattle.slices.specs.Totals.{withStart, isNought, amplitudeAfter, share, tallyBelow, readoutAfter, readoutCount}
 use Rattle.slices.specs.Slices.{along, coefficient, gamma, innerSum}
 use Rattle.text.specs.Spelling.{sameBytes, digits, decimal, signedDecimal, bitDigits, spelledSpot, spelledGate, begins}
 use Rattle.text.specs.Items.{valueFrom, afterDigits, frontBits, afterBits, colourOf, spotOf, cczOf, czOf, cnotOf, gateOf}
-use Rattle.lines.specs.Typed.{stringsOf, row}
-use Rattle.lines.specs.Spelling.{spelledGates, spelledBits, spelled, someBits, allSome, isAllowed, allAllowed, colourTwice, anyColourTwice, gatesIn}
+use Rattle.forms.specs.Typed.{stringsOf, row}
+use Rattle.forms.specs.Spelling.{spelledGates, spelledBits, spelled, someBits, allSome, isAllowed, allAllowed, colourTwice, anyColourTwice, gatesIn}
 use Rattle.lines.specs.Readings.{gatesAfter, typedOf, shapeAs, readingOf}
 use Rattle.answers.specs.Answers.{bytesOf, infront}
 use Rattle.refusals.specs.Refusals.{orElse, refusedIf, classNumber, isClass, works, momentRefusal, within, inRange, allInRange, onItself, anyOnItself, outOfRange, anyNotLong, operandRefusal, places, undoesMore, historyRefusal, rowRefusal, refusalBy}

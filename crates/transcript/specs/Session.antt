@@ -6,7 +6,7 @@ use Prim.Native.Nat.{ℕ}
 use lib.Dec.{eqb}
 use lib.ListN.{length, replicate}
 use Rattle.circuit.specs.Polynomial.{polynomial}
-use Rattle.circuit.specs.Listing.{listing, gatesOf as gatesIn}
+use Rattle.listing.specs.Listing.{listing, gatesOf as gatesIn}
 use Rattle.text.specs.Spelling.{spelledGate}
 use Rattle.engine.specs.Engine.{Engine, freshEngine}
 use Rattle.engine.specs.Calls.{Response, response}

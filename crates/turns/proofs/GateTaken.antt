@@ -9,7 +9,7 @@ use lib.ListN.{length, set, length-append}
 use borrow.Author.Tests.{lt-ltb}
 use Rattle.circuit.specs.declared.Gate.{Gate}
 use Rattle.circuit.specs.Sum.{isGate, areGates}
-use Rattle.circuit.specs.History.{codeOf}
+use Rattle.history.specs.History.{codeOf}
 use Rattle.held.specs.declared.Held.{Held}
 use Rattle.held.specs.Circuit.{Circuit, withGates}
 use Rattle.held.specs.Memory.{encodeCircuit, stored, hasRoom, withGate, withCode}

@@ -10,7 +10,7 @@ use Rattle.circuit.specs.declared.Gate.the-variants as Gate
 use Rattle.circuit.specs.Colours.{sameColour}
 use Rattle.circuit.specs.Sum.{isPosition, isGate, areGates}
 use Rattle.held.proofs.GateLists.{both}
-use Rattle.lines.specs.Spelling.{colourTwice, anyColourTwice}
+use Rattle.forms.specs.Spelling.{colourTwice, anyColourTwice}
 use Rattle.refusals.specs.Refusals.{inRange, allInRange, onItself, anyOnItself}
 use Rattle.turns.proofs.Passing.{or-none}
 

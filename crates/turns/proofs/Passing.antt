@@ -6,8 +6,8 @@ use lib.ListN.{length}
 use borrow.Author.Tests.{ltb-false, not-false}
 use Rattle.gf2.proofs.Bits.{and-both}
 use Rattle.gf2.proofs.Impossible.{never}
-use Rattle.lines.specs.declared.Class.the-variants as Class
-use Rattle.lines.specs.Typed.{Row}
+use Rattle.forms.specs.declared.Class.the-variants as Class
+use Rattle.forms.specs.Typed.{Row}
 use Rattle.refusals.specs.Refusals.{orElse, refusedIf, isClass, works, momentRefusal, within, allInRange, anyOnItself, outOfRange, anyNotLong, operandRefusal, places, undoesMore, historyRefusal, rowRefusal}
 
 -- No number of two tests: neither found one.

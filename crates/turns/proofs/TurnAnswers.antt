@@ -13,13 +13,13 @@ use lib.Pow.{pow-add, pow-lt}
 use Rattle.circuit.specs.declared.Colour.{Colour}
 use Rattle.circuit.specs.Sum.{Basis}
 use Rattle.circuit.specs.Polynomial.{Term, Polynomial, polynomial}
-use Rattle.circuit.specs.Listing.{overPositions, triples, pairsBeside, everyTerm, among, listing}
+use Rattle.listing.specs.Listing.{overPositions, triples, pairsBeside, everyTerm, among, listing}
 use Rattle.slices.specs.Totals.{amplitudeAfter, readoutCount}
 use Rattle.slices.proofs.Bounds.{amplitudeAfter-bound, readoutCount-bound}
 use Rattle.held.specs.Circuit.{Circuit}
 use Rattle.held.specs.Memory.{SoundCircuit}
-use Rattle.lines.specs.Typed.{Asked, amp, part, Typed, circuit, gate, layer, undo, start, opens, step, drop, terms}
-use Rattle.lines.specs.Spelling.{Reading, typed, refused}
+use Rattle.forms.specs.Typed.{Asked, amp, part, Typed, circuit, gate, layer, undo, start, opens, step, drop, terms}
+use Rattle.forms.specs.Spelling.{Reading, typed, refused}
 use Rattle.lines.specs.Readings.{readingOf}
 use Rattle.lines.proofs.Readings.{refused-among}
 use Rattle.answers.specs.declared.Answer.the-variants as Answer

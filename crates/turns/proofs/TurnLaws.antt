@@ -10,8 +10,8 @@ use types.Run.{OneOf, miss}
 use Rattle.held.specs.declared.Held.{Held}
 use Rattle.held.specs.Circuit.{Circuit}
 use Rattle.held.specs.Memory.{encodeCircuit, SoundCircuit}
-use Rattle.lines.specs.declared.Form.{Form}
-use Rattle.lines.proofs.Form.{the-type}
+use Rattle.forms.specs.declared.Form.{Form}
+use Rattle.forms.proofs.Form.{the-type}
 use Rattle.sums.proofs.StepsTaken.{slices-counted}
 
 -- The numbers of the forms, those below n, and all besides one of them.

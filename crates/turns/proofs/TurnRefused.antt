@@ -11,8 +11,8 @@ use borrow.Author.Tests.{ne-eqb}
 use Rattle.held.specs.declared.Held.{Held}
 use Rattle.held.specs.Circuit.{Circuit}
 use Rattle.held.specs.Memory.{encodeCircuit}
-use Rattle.lines.specs.Typed.{Typed}
-use Rattle.lines.specs.Spelling.{Reading, typed, refused, gatesIn}
+use Rattle.forms.specs.Typed.{Typed}
+use Rattle.forms.specs.Spelling.{Reading, typed, refused, gatesIn}
 use Rattle.lines.specs.Readings.{readingOf}
 use Rattle.lines.proofs.Readings.{refused-among}
 use Rattle.answers.specs.declared.Answer.the-variants as Answer

@@ -24,14 +24,14 @@ use Rattle.text.specs.declared.Bits.{Bits}
 use Rattle.text.specs.Reading.{capped, heldBits}
 use Rattle.text.proofs.BitNumbers.{held-exactly}
 use Rattle.gates.specs.Gates.{heldGate, layerGates}
-use Rattle.lines.specs.declared.Form.{Form}
-use Rattle.lines.specs.declared.Form.the-variants as Form
-use Rattle.lines.specs.Typed.{amp, part, Typed, circuit, undo, start, opens, step, drop, terms, stringsOf, row}
-use Rattle.lines.specs.Spelling.{typed}
+use Rattle.forms.specs.declared.Form.{Form}
+use Rattle.forms.specs.declared.Form.the-variants as Form
+use Rattle.forms.specs.Typed.{amp, part, Typed, circuit, undo, start, opens, step, drop, terms, stringsOf, row}
+use Rattle.forms.specs.Spelling.{typed}
 use Rattle.lines.specs.Readings.{readingOf}
-use Rattle.lines.specs.Held.{held, heldReading}
+use Rattle.forms.specs.Held.{held, heldReading}
 use Rattle.lines.proofs.Readings.{form-read}
-use Rattle.lines.proofs.HeldForms.{HeldAs, circuits, cczs, czs, cnots, layers, undos, starts, amps, parts, steps, drops, lists, held-as}
+use Rattle.forms.proofs.HeldForms.{HeldAs, circuits, cczs, czs, cnots, layers, undos, starts, amps, parts, steps, drops, lists, held-as}
 use Rattle.lines.proofs.LayerLine.{handed-on}
 use Rattle.answers.specs.declared.Answer.the-variants as Answer
 use Rattle.refusals.specs.Refusals.{allInRange, places, refusalBy}

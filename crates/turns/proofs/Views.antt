@@ -17,8 +17,8 @@ use Rattle.circuit.specs.Colours.{join}
 use Rattle.circuit.specs.Sum.{areGates}
 use Rattle.held.specs.Circuit.{Circuit, newCircuit, withGates, withoutLast, withNewStart}
 use Rattle.held.specs.Memory.{Long}
-use Rattle.lines.specs.Typed.{Asked, amp, part, Typed, circuit, gate, layer, undo, start, opens, step, drop, terms, stringsOf, row}
-use Rattle.lines.specs.Spelling.{Reading, typed, refused}
+use Rattle.forms.specs.Typed.{Asked, amp, part, Typed, circuit, gate, layer, undo, start, opens, step, drop, terms, stringsOf, row}
+use Rattle.forms.specs.Spelling.{Reading, typed, refused}
 use Rattle.lines.specs.Readings.{readingOf}
 use Rattle.lines.proofs.Readings.{form-read, refused-among}
 use Rattle.answers.specs.declared.Answer.{Answer}

@@ -10,8 +10,8 @@ use Rattle.circuit.specs.Sum.{areGates}
 use Rattle.held.specs.declared.Held.{Held}
 use Rattle.held.specs.Circuit.{Circuit, withGates}
 use Rattle.held.specs.Memory.{encodeCircuit, stored, SoundCircuit, Stored}
-use Rattle.lines.specs.Typed.{Typed, row}
-use Rattle.lines.specs.Spelling.{Reading, typed, gatesIn}
+use Rattle.forms.specs.Typed.{Typed, row}
+use Rattle.forms.specs.Spelling.{Reading, typed, gatesIn}
 use Rattle.answers.specs.declared.Answer.the-variants as Answer
 use Rattle.refusals.specs.Refusals.{places}
 use Rattle.sums.specs.declared.Sum.{Sum}

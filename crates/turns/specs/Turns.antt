@@ -5,10 +5,10 @@ use Prim.Native.Nat.{ℕ, zero, suc, _^_}
 use lib.Dec.{eqb}
 use lib.ListN.{length}
 use Rattle.circuit.specs.Polynomial.{polynomial}
-use Rattle.circuit.specs.Listing.{listing}
+use Rattle.listing.specs.Listing.{listing}
 use Rattle.held.specs.Circuit.{Circuit, newCircuit, withGates, withoutLast, withNewStart}
-use Rattle.lines.specs.Typed.{Typed, circuit, gate, layer, undo, start, opens, step, drop, terms}
-use Rattle.lines.specs.Spelling.{Reading, typed, refused}
+use Rattle.forms.specs.Typed.{Typed, circuit, gate, layer, undo, start, opens, step, drop, terms}
+use Rattle.forms.specs.Spelling.{Reading, typed, refused}
 use Rattle.refusals.specs.Refusals.{refusalBy}
 use Rattle.answers.specs.declared.Answer.{Answer}
 use Rattle.answers.specs.declared.Answer.the-variants.{Ok, Left, Terms, Refused}

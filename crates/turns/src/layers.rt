@@ -7,9 +7,9 @@ ghost use Rattle.circuit.specs.Sum.{areGates};
 ghost use Rattle.held.specs.Circuit.{Circuit, withGates};
 ghost use Rattle.held.specs.Memory.{encodeCircuit, stored};
 ghost use Rattle.gates.specs.Gates.{layerGates};
-ghost use Rattle.lines.specs.Held.{heldReading};
+ghost use Rattle.forms.specs.Held.{heldReading};
 ghost use Rattle.lines.specs.Readings.{readingOf};
-ghost use Rattle.lines.specs.declared.Form.the-variants as Form;
+ghost use Rattle.forms.specs.declared.Form.the-variants as Form;
 use gates::GateAt;
 use held::Held;
 

@@ -11,18 +11,18 @@ ghost use Rattle.held.specs.Circuit.{Circuit, newCircuit, withoutLast, withNewS
 ghost use Rattle.held.specs.Memory.{numbersOf, encodeCircuit, SoundCircuit};
 ghost use Rattle.text.specs.declared.Bits.{Bits};
 ghost use Rattle.gates.specs.Gates.{layerGates};
-ghost use Rattle.lines.specs.Held.{heldReading};
-ghost use Rattle.lines.specs.Spelling.{typed};
+ghost use Rattle.forms.specs.Held.{heldReading};
+ghost use Rattle.forms.specs.Spelling.{typed};
 ghost use Rattle.lines.specs.Readings.{readingOf};
-ghost use Rattle.lines.specs.Typed.{Typed, amp, part, opens, step, drop, terms};
+ghost use Rattle.forms.specs.Typed.{Typed, amp, part, opens, step, drop, terms};
 ghost use Rattle.sums.specs.Sums.{Opened, closed, encodeSum};
 ghost use Rattle.turns.specs.Turns.{gives, accepted};
 ghost use Rattle.turns.specs.Promises.{Stands, Done, Does, Builds, Free, Taken, Turned};
 use answers::Answer;
 use circuit::Gate;
+use forms::Form;
 use held::Held;
 use held::Numbers;
-use lines::Form;
 use sums::Sum;
 
 mod layers;
@@ -239,7 +239,7 @@ fn terms_turn(circuit: Held, sum: Sum, form: Form) -> Turn
         return turned_back(circuit, sum, form);
     };
     let words = circuit.polynomial;
-    let count = circuit::listing::count(words);
+    let count = listing::count(words);
     Turn {
         circuit,
         sum,

@@ -14,11 +14,11 @@ returns-2 c e h k = fetch-nought e _ h _ k _ (c .before .if1 .left) (c .if2 .tak
 returns-3 : tie.Need-returns-3
 returns-3 c e h k = fetch-unlisted e _ h _ k _ (c .before .before .before .if1 .left) (not-true _ (c .if3 .taken))
 
-sub-entry : tie.Need-sub-entry
-sub-entry c = search needs
+sub-term-at : tie.Need-sub-term-at
+sub-term-at c = search needs
 
-entry-requires : tie.Need-entry-requires
-entry-requires c κs = search needs
+term-at-requires : tie.Need-term-at-requires
+term-at-requires c κs = search needs
 
 enum-known-gate : tie.Need-enum-known-gate
 enum-known-gate c = search needs
@@ -28,7 +28,7 @@ enum-told c = search needs
 
 returns-4 : tie.Need-returns-4
 returns-4 c e h k =
-    fetch-past e _ h _ k _ (c .before .before .before .before .before .before .before .if1 .left) (c .before .before .before .before .before .before .if2 .left) (not-false _ (c .before .before .before .before .if3 .left)) _ (c .before .before .entry .ensures) (c .enum-told .given .1)
+    fetch-past e _ h _ k _ (c .before .before .before .before .before .before .before .if1 .left) (c .before .before .before .before .before .before .if2 .left) (not-false _ (c .before .before .before .before .if3 .left)) _ (c .before .before .term-at .ensures) (c .enum-told .given .1)
 
 write-requires : tie.Need-write-requires
 write-requires c κs = search needs
@@ -38,7 +38,7 @@ same-length c = search needs
 
 returns-5 : tie.Need-returns-5
 returns-5 c e h k =
-    fetch-line e _ h _ k _ (c .before .before .before .before .before .before .before .before .before .before .before .before .if1 .left) (c .before .before .before .before .before .before .before .before .before .before .before .if2 .left) (not-false _ (c .before .before .before .before .before .before .before .before .before .if3 .left)) _ (c .before .before .before .before .before .before .before .entry .ensures) _ _ _ (c .before .before .before .before .before .gate .given .1) (c .before .before .write .ensures)
+    fetch-line e _ h _ k _ (c .before .before .before .before .before .before .before .before .before .before .before .before .if1 .left) (c .before .before .before .before .before .before .before .before .before .before .before .if2 .left) (not-false _ (c .before .before .before .before .before .before .before .before .before .if3 .left)) _ (c .before .before .before .before .before .before .before .term-at .ensures) _ _ _ (c .before .before .before .before .before .gate .given .1) (c .before .before .write .ensures)
 
 pub fetch-spec : {M : Type 1} → statement M
 fetch-spec =
@@ -47,8 +47,8 @@ fetch-spec =
     returns
     returns-2
     returns-3
-    sub-entry
-    entry-requires
+    sub-term-at
+    term-at-requires
     enum-known-gate
     enum-told
     returns-4

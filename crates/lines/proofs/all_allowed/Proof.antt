@@ -5,7 +5,7 @@ use native.Mathlib.Omega.{arith}
 use denote.Ref.{now}
 use lib.ListN.{length, drop}
 use borrow.Author.Tests.{not-true, not-false}
-use Rattle.lines.specs.Spelling.{allAllowed}
+use Rattle.forms.specs.Spelling.{allAllowed}
 use Rattle.lines.proofs.Scanning.{allowed-end, allowed-not, allowed-on}
 use borrow.Author.Needs.{needs}
 use Rattle.lines.proofs.all_allowed.Statement.{statement}

@@ -1,6 +1,6 @@
 -- The tests are those of `isAllowed`.
 use mathlib.Core.Path.{refl}
-use Rattle.lines.specs.Spelling.{isAllowed}
+use Rattle.forms.specs.Spelling.{isAllowed}
 use Rattle.lines.proofs.allowed.Statement.{statement}
 use Rattle.lines.proofs.allowed.Tie as tie
 

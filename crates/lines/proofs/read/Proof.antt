@@ -2,7 +2,7 @@
 use mathlib.Core.Path.{sym, _∙_}
 use borrow.Author.Tests.{lt-ltb, le-ltb, not-true, not-false}
 use Rattle.lines.specs.Readings.{readingOf}
-use Rattle.lines.specs.Held.{heldReading}
+use Rattle.forms.specs.Held.{heldReading}
 use Rattle.lines.proofs.Readings.{shape-held}
 use borrow.Author.Needs.{needs}
 use Rattle.lines.proofs.read.Statement.{statement}

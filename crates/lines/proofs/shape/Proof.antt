@@ -1,6 +1,6 @@
 -- Three keywords are tried in the order of `shapeOf`, and then the other forms.
 use mathlib.Core.Path.{sym, _∙_}
-use Rattle.lines.specs.Forms.{shapeOf}
+use Rattle.lines.specs.Shapes.{shapeOf}
 use borrow.Author.Needs.{needs}
 use Rattle.lines.proofs.shape.Statement.{statement}
 use Rattle.lines.proofs.shape.Tie as tie

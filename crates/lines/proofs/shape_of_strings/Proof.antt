@@ -1,6 +1,6 @@
 -- Three keywords are tried in the order of `stringsShape`, and then the other forms.
 use mathlib.Core.Path.{sym, _∙_}
-use Rattle.lines.specs.Forms.{stringsShape}
+use Rattle.lines.specs.Shapes.{stringsShape}
 use borrow.Author.Needs.{needs}
 use Rattle.lines.proofs.shape_of_strings.Statement.{statement}
 use Rattle.lines.proofs.shape_of_strings.Tie as tie

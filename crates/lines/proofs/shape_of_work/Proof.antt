@@ -1,6 +1,6 @@
 -- Three keywords are tried in the order of `workShape`, and then the gates.
 use mathlib.Core.Path.{sym, _∙_}
-use Rattle.lines.specs.Forms.{workShape}
+use Rattle.lines.specs.Shapes.{workShape}
 use borrow.Author.Needs.{needs}
 use Rattle.lines.proofs.shape_of_work.Statement.{statement}
 use Rattle.lines.proofs.shape_of_work.Tie as tie

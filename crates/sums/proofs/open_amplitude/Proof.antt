@@ -1,7 +1,7 @@
 -- Its table is made, and no slice is worked yet.
 use borrow.Author.Needs.{needs}
 use mathlib.Core.Path.{refl}
-use Rattle.lines.specs.Typed.{amp}
+use Rattle.forms.specs.Typed.{amp}
 use Rattle.sums.specs.Tables.{sliced, output}
 use Rattle.sums.proofs.Openings.{amplitude-begun}
 use Rattle.sums.proofs.open_amplitude.Statement.{statement}

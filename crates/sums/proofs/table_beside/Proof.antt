@@ -3,7 +3,7 @@ use borrow.Author.Needs.{needs}
 use mathlib.Core.Path.{refl}
 use Rattle.circuit.specs.declared.Colour.the-variants.{Red, Blue, Green}
 use Rattle.circuit.specs.Colours.{join}
-use Rattle.lines.specs.Typed.{part}
+use Rattle.forms.specs.Typed.{part}
 use Rattle.sums.specs.Tables.{sliced}
 use Rattle.sums.proofs.Openings.{placed}
 use Rattle.sums.proofs.table_beside.Statement.{statement}

@@ -1,5 +1,5 @@
 -- Each form is taken by its own stage; what a stage asks is known where no place turned the line back.
-use Rattle.lines.proofs.HeldForms.{never-refused}
+use Rattle.forms.proofs.HeldForms.{never-refused}
 use Rattle.turns.proofs.TurnTaken.{circuit-taken, ccz-taken, cz-taken, cnot-taken, layer-taken, undo-taken, start-taken, amplitude-taken, readout-taken, step-taken, drop-taken, terms-taken, held-told}
 use borrow.Author.Needs.{needs}
 use Rattle.turns.proofs.taken.Statement.{statement}

@@ -1,7 +1,7 @@
 -- The first place that finds a number gives it; a place is tried where those above it found none.
 use mathlib.Core.Path.{_≡_, ap, sym, _∙_}
 use denote.Ref.{now}
-use Rattle.lines.specs.Typed.{row}
+use Rattle.forms.specs.Typed.{row}
 use Rattle.refusals.specs.Refusals.{orElse, momentRefusal, operandRefusal, rowRefusal}
 use Rattle.refusals.proofs.RefusalLaws.{found-first, number-in-range}
 use borrow.Author.Needs.{needs}

@@ -9,7 +9,7 @@ use lib.ListN.{length, length-set}
 use Rattle.gf2.specs.Strings.{BitString, bit}
 use Rattle.gf2.specs.Digits.{highFirst}
 use Rattle.circuit.specs.Polynomial.{Polynomial}
-use Rattle.circuit.specs.Words.{wordsOf}
+use Rattle.polynomial.specs.Words.{wordsOf}
 use Rattle.tables.proofs.OutputWords.{addedBelow, position-bit, words-begun, words-next, words-passed, words-ended}
 use borrow.Author.Needs.{needs}
 use Rattle.tables.proofs.output.add_string.Statement.{statement}

@@ -5,7 +5,7 @@ use native.Mathlib.Omega.{arith}
 use lib.ListN.{length, length-set, getD}
 use Rattle.circuit.specs.Colours.{join}
 use Rattle.circuit.specs.Polynomial.{Polynomial}
-use Rattle.circuit.specs.Words.{wordsOf}
+use Rattle.polynomial.specs.Words.{wordsOf}
 use Rattle.tables.specs.Packing.{packedWord}
 use Rattle.tables.proofs.TableWords.{stored-more, tableOf-unique}
 use borrow.Author.Needs.{needs}

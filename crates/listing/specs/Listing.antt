@@ -1,0 +1,61 @@
+-- The listing of a polynomial (Manual 6.2): its terms, each once, in a fixed order.
+use mathlib.Core.Bool.{cond}
+use mathlib.Core.List.{List, [], _∷_, _++_}
+use Prim.Native.Nat.{ℕ, zero, suc, _+_}
+use Rattle.circuit.specs.declared.Colour.{Colour}
+use Rattle.circuit.specs.declared.Colour.the-variants.{Red, Blue, Green}
+use Rattle.circuit.specs.declared.Gate.{Gate}
+use Rattle.circuit.specs.declared.Gate.the-variants.{Ccz, Cz}
+use Rattle.listing.specs.declared.Entry.{Entry}
+use Rattle.listing.specs.declared.Entry.the-variants.{Listed, Nothing}
+use Rattle.circuit.specs.Colours.{join}
+use Rattle.circuit.specs.Polynomial.{Term, Polynomial, term, sameTerm}
+
+-- f 1, .., f n, one after the other.
+unfoldable pub overPositions : ℕ → (ℕ → List Term) → List Term
+overPositions zero f = []
+overPositions (suc n) f = overPositions n f ++ f (suc n)
+
+-- CCZ terms, with a position of each colour: by red, then blue, then green position.
+unfoldable pub triples : ℕ → List Term
+triples m = overPositions m (λ i. overPositions m (λ j. overPositions m (λ k. term i j k ∷ [])))
+
+-- CZ terms, with no position of C: by the first and then the second position of the other two.
+unfoldable pub pairsBeside : Colour → ℕ → List Term
+pairsBeside C m = overPositions m (λ i. overPositions m (λ j. join C 0 i j ∷ []))
+
+-- Every term that a circuit of m positions can have: CCZ terms, then CZ terms red-blue, red-green, blue-green.
+unfoldable pub everyTerm : ℕ → List Term
+everyTerm m = triples m ++ (pairsBeside Green m ++ (pairsBeside Blue m ++ pairsBeside Red m))
+
+-- Those of a list that are in the polynomial.
+unfoldable pub among : Polynomial → List Term → List Term
+among f [] = []
+among f (h ∷ hs) = cond (f h) (h ∷ among f hs) (among f hs)
+
+-- The listing of a polynomial of m positions.
+unfoldable pub listing : ℕ → Polynomial → List Term
+listing m f = among f (everyTerm m)
+
+-- How often a term stands in a list. In a listing it is once for a term of the polynomial, and not at all for any other.
+unfoldable pub occurrences : Term → List Term → ℕ
+occurrences h [] = 0
+occurrences h (k ∷ ks) = cond (sameTerm h k) 1 0 + occurrences h ks
+
+-- The gate that adds a term, as it is listed: a CCZ, or a CZ with its colours in the order r, b, g.
+unfoldable pub gateOfTerm : ℕ → ℕ → ℕ → Gate
+gateOfTerm zero j k = Cz (record { colour = Blue; position = j }) (record { colour = Green; position = k })
+gateOfTerm (suc i) zero k = Cz (record { colour = Red; position = suc i }) (record { colour = Green; position = k })
+gateOfTerm (suc i) (suc j) zero = Cz (record { colour = Red; position = suc i }) (record { colour = Blue; position = suc j })
+gateOfTerm (suc i) (suc j) (suc k) = Ccz (suc i) (suc j) (suc k)
+
+-- The gates of a list of terms.
+unfoldable pub gatesOf : List Term → List Gate
+gatesOf [] = []
+gatesOf (h ∷ hs) = gateOfTerm (h .red) (h .blue) (h .green) ∷ gatesOf hs
+
+-- The entry at place n of a listing, places counted from 0.
+unfoldable pub entryOf : List Term → ℕ → Entry
+entryOf [] n = Nothing
+entryOf (h ∷ hs) zero = Listed (gateOfTerm (h .red) (h .blue) (h .green))
+entryOf (h ∷ hs) (suc n) = entryOf hs n

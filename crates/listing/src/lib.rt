@@ -1,0 +1,163 @@
+// The terms of a polynomial in order: CCZ terms by red, blue and green position, then CZ terms red-blue, red-green, blue-green.
+// The listing falls into 544 cells, each what one word holds under a mask, so that a word of terms is passed at one step.
+ghost use mathlib.Core.Path.{_≡_};
+ghost use Prim.Native.Nat.{_<_};
+ghost use lib.ListN.{length, getD};
+ghost use Rattle.gf2.specs.Words.{bitAt};
+ghost use Rattle.circuit.specs.Polynomial.{Polynomial};
+ghost use Rattle.listing.specs.Listing.{listing, entryOf, gateOfTerm};
+ghost use Rattle.polynomial.specs.Words.{wordsOf};
+ghost use Rattle.listing.specs.Cells.{concatBelow, marked, cellRed, cellBlue, cellMask, cellWord, cellTerms};
+use circuit::Colour;
+use circuit::Gate;
+use circuit::Spot;
+use polynomial::WORDS;
+
+// What stands at a place of the listing.
+pub enum Entry {
+    Listed(Gate),
+    Nothing,
+}
+
+// A cell, and a place among its terms.
+struct Place {
+    cell: usize,
+    left: usize,
+}
+
+// The red and the blue index of the terms of cell `n`.
+fn red_of(n: usize) -> usize
+    ensures { λ r. ⌜ r ≡ cellRed n ⌝ }
+{
+    if n < 512 {
+        return n % 256 / 16 + 1;
+    }
+    if n < 528 {
+        return n - 511;
+    }
+    0
+}
+
+fn blue_of(n: usize) -> usize
+    ensures { λ r. ⌜ r ≡ cellBlue n ⌝ }
+{
+    if n < 512 {
+        return n % 16 + 1;
+    }
+    if n < 528 {
+        return 0;
+    }
+    n - 527
+}
+
+// Bits 1 to 16, and bit 0 alone for a red-blue term.
+fn mask_of(n: usize) -> u32
+    ensures { λ r. ⌜ r ≡ cellMask n ⌝ }
+{
+    if n < 256 {
+        return 131070;
+    }
+    if n < 512 {
+        return 1;
+    }
+    131070
+}
+
+// The terms of cell `n`, a bit for each.
+fn cell(words: &[u32; WORDS], n: usize) -> u32
+    requires { ⌜ n < 544 ⌝ }
+    ensures { λ r. ⌜ r ≡ cellWord (now (words .entry)) n ⌝ }
+{
+    words[17 * red_of(n) + blue_of(n)] & mask_of(n)
+}
+
+// How many terms there are.
+pub fn count(words: [u32; WORDS]) -> usize
+    ensures { λ r. ⌜ ((f : Polynomial) → words ≡ wordsOf f → r ≡ length (listing 16 f)) ⌝ }
+{
+    let mut total: usize = 0;
+    let mut n = 0;
+    while n < 544 {
+        total += u32::count_ones(cell(&words, n)) as usize;
+        n += 1;
+    }
+    total
+}
+
+// Where place `n` of the listing is; a place past its end is past the end of the last cell.
+fn find(words: &[u32; WORDS], n: usize) -> Place
+    ensures cell { λ r. ⌜ r .cell < 544 ⌝ }
+    ensures place { λ r. ⌜ entryOf (concatBelow 544 (cellTerms (now (words .entry)))) n ≡ entryOf (cellTerms (now (words .entry)) (r .cell)) (r .left) ⌝ }
+{
+    let mut left = n;
+    let mut at = 0;
+    while at < 543 {
+        let here = u32::count_ones(cell(words, at)) as usize;
+        if left < here {
+            return Place { cell: at, left };
+        }
+        left -= here;
+        at += 1;
+    }
+    Place { cell: at, left }
+}
+
+// The bit of a word that has `n` ones below it and is one itself, of its 17 low bits; 17 if there is none.
+fn select(w: u32, n: usize) -> usize
+    ensures { λ r. ⌜ r ≡ getD (marked 17 (bitAt w)) n 17 ⌝ }
+{
+    let mut left = n;
+    let mut k = 0;
+    while k < 17 {
+        if gf2::bit(w, k) {
+            if left == 0 {
+                return k;
+            }
+            left -= 1;
+        }
+        k += 1;
+    }
+    17
+}
+
+// The gate that adds a term, by the term's indices.
+fn gate_of_term(i: usize, j: usize, k: usize) -> Gate
+    ensures { λ r. ⌜ r ≡ gateOfTerm i j k ⌝ }
+{
+    let red = Spot {
+        colour: Colour::Red,
+        position: i,
+    };
+    let blue = Spot {
+        colour: Colour::Blue,
+        position: j,
+    };
+    let green = Spot {
+        colour: Colour::Green,
+        position: k,
+    };
+    if i == 0 {
+        return Gate::Cz(blue, green);
+    }
+    if j == 0 {
+        return Gate::Cz(red, green);
+    }
+    if k == 0 {
+        return Gate::Cz(red, blue);
+    }
+    Gate::Ccz(i, j, k)
+}
+
+// The term at place `n` of the listing, places counted from 0.
+pub fn term_at(words: [u32; WORDS], n: usize) -> Entry
+    ensures { λ r. ⌜ ((f : Polynomial) → words ≡ wordsOf f → r ≡ entryOf (listing 16 f) n) ⌝ }
+{
+    let place = find(&words, n);
+    let at = place.cell;
+    let left = place.left;
+    let w = cell(&words, at);
+    if u32::count_ones(w) as usize <= left {
+        return Entry::Nothing;
+    }
+    Entry::Listed(gate_of_term(red_of(at), blue_of(at), select(w, left)))
+}
