@@ -14,7 +14,8 @@ use Rattle.refusals.specs.Refusals.{classNumber, isClass, refusalBy}
 use Rattle.sums.specs.declared.Total.{Total}
 use Rattle.sums.specs.declared.Total.the-variants as Total
 use Rattle.sums.specs.Sums.{Opened, closed, running, totalAfter, ended, stepAnswer}
-use Rattle.turns.specs.Turns.{accepted, refusalOf, turnBy, turnOf}
+use Rattle.stages.specs.Stages.{accepted}
+use Rattle.turns.specs.Turns.{refusalOf, turnBy, turnOf}
 use Rattle.engine.specs.Calls.{asksTerms}
 use Rattle.engine.specs.Answering.{refusalNumber, hasLines}
 

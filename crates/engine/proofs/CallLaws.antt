@@ -25,7 +25,7 @@ use Rattle.answers.specs.declared.Answer.the-variants as Answer
 use Rattle.answers.specs.Answers.{bytesOf, infront, Written}
 use Rattle.answers.proofs.Lengths.{ModestGate, answer-fits}
 use Rattle.engine.specs.declared.State.{State}
-use Rattle.turns.specs.declared.Turn.{Turn as Left}
+use Rattle.stages.specs.declared.Turn.{Turn as Left}
 use Rattle.turns.specs.Promises.{Turned}
 use Rattle.engine.specs.Engine.{Engine}
 use Rattle.engine.specs.Calls.{encode, Holds, answering, tooShort, skipped, response, Given, entryBytes, lineNumbered, laterLine, fetchedBytes, FetchGiven}

@@ -13,7 +13,8 @@ use Rattle.forms.specs.Spelling.{Reading, typed, refused}
 use Rattle.lines.specs.Readings.{readingOf}
 use Rattle.refusals.specs.Refusals.{refusalBy}
 use Rattle.sums.specs.Sums.{Opened}
-use Rattle.turns.specs.Turns.{Turn, refusalOf, turnBy, turnOf}
+use Rattle.stages.specs.Stages.{Turn}
+use Rattle.turns.specs.Turns.{refusalOf, turnBy, turnOf}
 use Rattle.engine.specs.Engine.{Engine}
 use Rattle.engine.specs.Calls.{Response, answering, tooShort, skipped, response}
 use Rattle.turns.proofs.TurnAnswers.{refusal-most}

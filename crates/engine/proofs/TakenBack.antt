@@ -10,7 +10,7 @@ use Rattle.held.specs.Circuit.{Circuit, withGates, withoutLast}
 use Rattle.forms.specs.Typed.{undo}
 use Rattle.answers.specs.declared.Answer.the-variants as Answer
 use Rattle.sums.specs.Sums.{Opened}
-use Rattle.turns.specs.Turns.{gives, accepted}
+use Rattle.stages.specs.Stages.{gives, accepted}
 
 -- By the contract of a line the state is a function of the engine alone, so every byte of it is as before.
 pub taken-back : (c : Circuit) (o : Opened) (gs : List Gate) → accepted (withGates gs c) o (undo (length gs)) ≡ gives c o Answer.Ok

@@ -25,7 +25,8 @@ use Rattle.answers.specs.declared.Answer.the-variants as Answer
 use Rattle.answers.specs.Answers.{bytesOf}
 use Rattle.refusals.specs.Refusals.{classNumber, isClass}
 use Rattle.engine.specs.declared.Reply.{Reply}
-use Rattle.turns.specs.Turns.{accepted, refusalOf, turnBy, turnOf}
+use Rattle.stages.specs.Stages.{accepted}
+use Rattle.turns.specs.Turns.{refusalOf, turnBy, turnOf}
 use Rattle.engine.specs.Engine.{Engine}
 use Rattle.engine.specs.Soundness.{Sound}
 use Rattle.engine.specs.Calls.{asksTerms, answering, tooShort, response, Given, entryBytes, lineNumbered, laterLine, fetchedBytes}

@@ -1,8 +1,9 @@
 -- A layer line is walked gate by gate: from place 6 on, each `layerGateAt` gives the next gate of `layerGates` and the place to go on from.
-use Prim.Native.Nat.{ℕ, zero, suc, _+_}
+use Prim.Native.Nat.{ℕ, zero, suc, _+_, _-_, _≤_, _<_}
 use mathlib.Core.Path.{_≡_, refl, ap, sym, _∙_}
 use mathlib.Core.Bool.{Bool, true, false}
 use mathlib.Core.List.{List, [], _∷_}
+use native.Mathlib.Omega.{arith}
 use lib.Dec.{eqb}
 use lib.ListN.{length, drop}
 use lib.Seq.{drop-drop}
@@ -62,3 +63,17 @@ walk-all l (g ∷ gs) at p = go (layerGateAt l at) (sym (step l at) ∙ p) (walk
         → withGate [] r (λ h next. h ∷ gatesMet (length gs) l next) ≡ g ∷ gs
     go (GateRead h next) e again = let same : h ≡ g = cc in let left : gatesAt l next ≡ gs = cc in rw (same, again next left)
     go NoGate e again = never (cc)
+
+-- Of n gates that are followed i are met: the next one, no further one, or all.
+module _ (l : List ℕ) (n i at : ℕ) where
+  pub met-next : (g : Gate) (next : ℕ) → i < n → layerGateAt l at ≡ GateRead g next → gatesMet (n - i) l at ≡ g ∷ gatesMet (n - (i + 1)) l next
+  unfolding gatesMet
+  met-next g next h e = let more : n - i ≡ suc (n - (i + 1)) = omega arith in rw (more, e)
+
+  pub met-end : i < n → layerGateAt l at ≡ NoGate → gatesMet (n - i) l at ≡ []
+  unfolding gatesMet
+  met-end h e = let more : n - i ≡ suc (n - (i + 1)) = omega arith in rw (more, e)
+
+  pub met-all : n ≤ i → gatesMet (n - i) l at ≡ []
+  unfolding gatesMet
+  met-all h = let none : n - i ≡ 0 = omega arith in rw none

@@ -26,6 +26,12 @@ gate-at m [] i v k = absurd (omega arith)
 gate-at m (g ∷ gs) zero v k = and-both (isGate m g) (areGates m gs) v .0
 gate-at m (g ∷ gs) (suc i) v k = gate-at m gs i (and-both (isGate m g) (areGates m gs) v .1) (omega arith)
 
+-- One gate among others.
+pub gate-among : (m : ℕ) (gs : List Gate) (g : Gate) (hs : List Gate) → areGates m (gs ++ (g ∷ hs)) ≡ true → isGate m g ≡ true
+unfolding areGates
+gate-among m [] g hs v = and-both (isGate m g) (areGates m hs) v .0
+gate-among m (x ∷ gs) g hs v = gate-among m gs g hs (and-both (isGate m x) (areGates m (gs ++ (g ∷ hs))) v .1)
+
 -- The first i + 1 gates are the first i with one more behind them.
 pub first-gates : (gs : List Gate) (i : ℕ) → i < length gs → take (i + 1) gs ≡ take i gs ++ (getD gs i noGate ∷ [])
 first-gates gs i k = rw add-one (take-suc gs i noGate k)

@@ -1,5 +1,5 @@
--- Refusals one after the other, classes by their numbers, a line of one gate, and a layer's gates one after the other.
-use Prim.Native.Nat.{ℕ, zero, suc, _+_, _-_, _≤_, _<_}
+-- Refusals one after the other, classes by their numbers, and a line of one gate.
+use Prim.Native.Nat.{ℕ, zero, suc}
 use native.Mathlib.Omega.{arith}
 use mathlib.Core.Path.{_≡_, refl, ap, sym, _∙_}
 use mathlib.Core.Bool.{Bool, true, false, not, cond, _&&_, and-true, or-false}
@@ -11,8 +11,6 @@ use Rattle.gf2.proofs.Bits.{and-both}
 use Rattle.circuit.specs.declared.Gate.{Gate}
 use Rattle.circuit.specs.declared.Gate.the-variants as Gate
 use Rattle.circuit.proofs.Gate.{the-type as gate-type}
-use Rattle.gates.specs.declared.GateAt.the-variants.{Read as GateRead, Missing as NoGate}
-use Rattle.gates.specs.Gates.{layerGateAt, gatesMet}
 use Rattle.forms.specs.declared.Class.{Class}
 use Rattle.forms.specs.declared.Class.the-variants.{Creates, Builds, TakesBack, Starts, Opens, Steps, Drops, Lists}
 use Rattle.forms.proofs.Class.{the-type as class-type}
@@ -89,17 +87,3 @@ unfolding onItself
 no-control (Gate.Ccz i j k) h = refl
 no-control (Gate.Cz p q) h = refl
 no-control (Gate.Cnot C c t) h = absurd (miss allButCnot 2 tt h)
-
--- Of n gates that are followed i are met: the next one, no further one, or all.
-module _ (l : List ℕ) (n i at : ℕ) where
-  pub met-next : (g : Gate) (next : ℕ) → i < n → layerGateAt l at ≡ GateRead g next → gatesMet (n - i) l at ≡ g ∷ gatesMet (n - (i + 1)) l next
-  unfolding gatesMet
-  met-next g next h e = let more : n - i ≡ suc (n - (i + 1)) = omega arith in rw (more, e)
-
-  pub met-end : i < n → layerGateAt l at ≡ NoGate → gatesMet (n - i) l at ≡ []
-  unfolding gatesMet
-  met-end h e = let more : n - i ≡ suc (n - (i + 1)) = omega arith in rw (more, e)
-
-  pub met-all : n ≤ i → gatesMet (n - i) l at ≡ []
-  unfolding gatesMet
-  met-all h = let none : n - i ≡ 0 = omega arith in rw none

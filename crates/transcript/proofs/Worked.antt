@@ -19,7 +19,8 @@ use Rattle.refusals.specs.Refusals.{orElse, refusedIf, classNumber, isClass, wo
 use Rattle.held.specs.Circuit.{allZeros, newCircuit, withGates, withoutLast, withNewStart}
 use Rattle.held.specs.Memory.{stored}
 use Rattle.sums.specs.Sums.{isRunning, totalAfter, ended, opening, stepped, stepAnswer}
-use Rattle.turns.specs.Turns.{accepted, refusalOf, turnBy, turnOf}
+use Rattle.stages.specs.Stages.{accepted}
+use Rattle.turns.specs.Turns.{refusalOf, turnBy, turnOf}
 use Rattle.engine.specs.Engine.{freshEngine}
 use Rattle.engine.specs.Calls.{asksTerms, answering, tooShort, skipped, response}
 use Rattle.framing.specs.Lines.{linesAfter, linesOf}

@@ -1,8 +1,6 @@
 pub mod Passing
 pub mod HeldGates
 pub mod Views
-pub mod GateTaken
-pub mod TurnLaws
 pub mod TurnTaken
 pub mod TurnRefused
 pub mod TurnAnswers

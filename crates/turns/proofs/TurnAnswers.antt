@@ -28,7 +28,8 @@ use Rattle.answers.proofs.Lengths.{Modest, answer-fits}
 use Rattle.refusals.specs.Refusals.{orElse, refusedIf, momentRefusal, operandRefusal, historyRefusal, rowRefusal, refusalBy}
 use Rattle.sums.specs.Sums.{Opened, closed, running, totalAfter, ended, stepAnswer}
 use Rattle.sums.specs.Soundness.{SoundOpened}
-use Rattle.turns.specs.Turns.{accepted, refusalOf, turnBy, turnOf}
+use Rattle.stages.specs.Stages.{accepted}
+use Rattle.turns.specs.Turns.{refusalOf, turnBy, turnOf}
 
 -- ---- refusals
 

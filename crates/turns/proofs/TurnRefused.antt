@@ -19,9 +19,10 @@ use Rattle.answers.specs.declared.Answer.the-variants as Answer
 use Rattle.refusals.specs.Refusals.{refusalBy}
 use Rattle.sums.specs.declared.Sum.{Sum}
 use Rattle.sums.specs.Sums.{Opened, isRunning, encodeSum}
-use Rattle.turns.specs.declared.Turn.{Turn as Left}
+use Rattle.stages.specs.declared.Turn.{Turn as Left}
 use Rattle.turns.specs.Turns.{refusalOf, turnBy, turnOf}
-use Rattle.turns.specs.Promises.{Stands, Done, Free, Taken, Turned}
+use Rattle.stages.specs.Promises.{Done}
+use Rattle.turns.specs.Promises.{Stands, Free, Taken, Turned}
 
 module _ (c : Circuit) (o : Opened) (k : Held) (x : Sum) (h : List ℕ) (stands : Stands c o k x h) (r : Reading) (n : ℕ) (summing : Bool)
     (is : (o : Opened) → x ≡ encodeSum o → summing ≡ isRunning o)

@@ -16,14 +16,14 @@ use Rattle.circuit.specs.declared.Gate.{Gate}
 use Rattle.circuit.specs.declared.Gate.the-variants as Gate
 use Rattle.circuit.specs.Sum.{Basis}
 use Rattle.held.specs.declared.Held.{Held}
-use Rattle.held.specs.Circuit.{Circuit, newCircuit, withGates, withoutLast, withNewStart}
+use Rattle.held.specs.Circuit.{Circuit, newCircuit, withGates, withNewStart}
 use Rattle.held.specs.Memory.{numbersOf}
 use Rattle.held.proofs.GateHistory.{stored-none}
 use Rattle.held.proofs.GateLists.{gates-more}
 use Rattle.text.specs.declared.Bits.{Bits}
 use Rattle.text.specs.Reading.{capped, heldBits}
 use Rattle.text.proofs.BitNumbers.{held-exactly}
-use Rattle.gates.specs.Gates.{heldGate, layerGates}
+use Rattle.gates.specs.Gates.{heldGate, gatesMet}
 use Rattle.forms.specs.declared.Form.{Form}
 use Rattle.forms.specs.declared.Form.the-variants as Form
 use Rattle.forms.specs.Typed.{amp, part, Typed, circuit, undo, start, opens, step, drop, terms, stringsOf, row}
@@ -32,15 +32,17 @@ use Rattle.lines.specs.Readings.{readingOf}
 use Rattle.forms.specs.Held.{held, heldReading}
 use Rattle.lines.proofs.Readings.{form-read}
 use Rattle.forms.proofs.HeldForms.{HeldAs, circuits, cczs, czs, cnots, layers, undos, starts, amps, parts, steps, drops, lists, held-as}
-use Rattle.lines.proofs.LayerLine.{handed-on}
+use Rattle.lines.proofs.LayerLine.{handed-on, layer-walked}
 use Rattle.answers.specs.declared.Answer.the-variants as Answer
 use Rattle.refusals.specs.Refusals.{allInRange, places, refusalBy}
 use Rattle.refusals.proofs.RowsHeld.{number-inside, held-inside}
 use Rattle.sums.specs.declared.Sum.{Sum}
 use Rattle.sums.specs.Sums.{Opened, closed, isRunning}
-use Rattle.turns.specs.declared.Turn.{Turn as Left}
-use Rattle.turns.specs.Turns.{gives, accepted, refusalOf}
-use Rattle.turns.specs.Promises.{Stands, Done, Does, Builds, Free, Taken}
+use Rattle.stages.specs.declared.Turn.{Turn as Left}
+use Rattle.stages.specs.Stages.{gives, accepted}
+use Rattle.turns.specs.Turns.{refusalOf}
+use Rattle.stages.specs.Promises.{Done, Does, Builds, TakesBack}
+use Rattle.turns.specs.Promises.{Free, Taken}
 use Rattle.turns.proofs.Passing.{Passes, passes}
 use Rattle.turns.proofs.Views.{Building, one, many, two-long, three-long}
 use Rattle.turns.proofs.HeldGates.{gates-by-tests}
@@ -83,10 +85,11 @@ module _ (c : Circuit) (o : Opened) (k : Held) (x : Sum) (h : List ℕ) (r' : Le
       form-taken (circuit m) refl (rw (number-held (circuit m) f (omega arith)) at d)
 
   pub undo-taken :
-      {t : Typed} {j : ℕ} → HeldAs t (Form.Undo j) → Free c o k x h t →
-      ((c : Circuit) (o : Opened) → Stands c o k x h → Done (gives (withoutLast j c) o Answer.Ok) r') → Taken c o h t r' h
+      {t : Typed} {j : ℕ} → HeldAs t (Form.Undo j) → Free c o k x h t → TakesBack j k x h r' → Taken c o h t r' h
   unfolding accepted row
-  undo-taken (undos {k = j}) f d = form-taken (undo j) refl (rw (number-held (undo j) f (omega arith)) at (d c o (f .stands)))
+  undo-taken (undos {k = j}) f d =
+      let s = f .stands in
+      form-taken (undo j) refl (rw (number-held (undo j) f (omega arith)) at (d c o (s .sound) (s .codes) (s .circuit) (s .sum)))
 
   pub start-taken :
       {t : Typed} {r b g : Bits} → HeldAs t (Form.Start r b g) → Free c o k x h t →
@@ -166,8 +169,11 @@ module _ (c : Circuit) (o : Opened) (k : Held) (x : Sum) (h : List ℕ) (r' : Le
     unfolding heldGate
     cnot-taken (cnots {C = C} {c = d} {t = u}) is f built = gates-taken _ is one (λ m most r. held-inside m most (Gate.Cnot C d u ∷ []) r) f built
 
-    pub layer-taken : {t : Typed} {n : ℕ} → HeldAs t (Form.Layer n) → readingOf line ≡ typed t → Free c o k x h t → Builds (layerGates line) k x h r' h' → Taken c o h t r' h'
-    layer-taken (layers {gs}) is f d = gates-taken (layerGates line) is many (λ m most r. handed-on line gs is ∙ held-inside m most gs r) f d
+    pub layer-taken : {t : Typed} {n : ℕ} → HeldAs t (Form.Layer n) → readingOf line ≡ typed t → Free c o k x h t → Builds (gatesMet n line 6) k x h r' h' → Taken c o h t r' h'
+    unfolding held heldReading
+    layer-taken (layers {gs}) is f d =
+        let walked = layer-walked line (length gs) (ap heldReading is) in
+        gates-taken (gatesMet (length gs) line 6) is many (λ m most r. walked ∙ handed-on line gs is ∙ held-inside m most gs r) f d
 
 -- What the code holds tells the form that was typed.
 pub held-told : (form f : Form) (l : List ℕ) (t : Typed) → form ≡ heldReading (readingOf l) → readingOf l ≡ typed t → form ≡ f → HeldAs t f

@@ -26,7 +26,8 @@ use Rattle.answers.specs.declared.Answer.the-variants as Answer
 use Rattle.refusals.specs.Refusals.{classNumber, isClass, works, within, places, anyNotLong, refusalBy}
 use Rattle.sums.specs.Tables.{output}
 use Rattle.sums.specs.Sums.{OpenSum, Opened, closed, running, isRunning, totalAfter, ended, opening, stepped, stepAnswer}
-use Rattle.turns.specs.Turns.{Turn, accepted, refusalOf, turnBy, turnOf}
+use Rattle.stages.specs.Stages.{Turn, accepted}
+use Rattle.turns.specs.Turns.{refusalOf, turnBy, turnOf}
 use Rattle.turns.proofs.Passing.{or-none, Passes, passes}
 use Rattle.turns.proofs.HeldGates.{gates-by-tests}
 

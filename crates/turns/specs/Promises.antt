@@ -1,24 +1,23 @@
--- What a turn promises, and what its stages promise each other, on the state of a circuit and a sum.
-use mathlib.Core.Bool.{true, cond}
+-- What a turn promises, on the state of a circuit and a sum.
+use mathlib.Core.Bool.{cond}
 use mathlib.Core.List.{List}
 use mathlib.Core.Path.{_≡_}
-use Prim.Native.Nat.{ℕ, _+_, _≤_}
+use Prim.Native.Nat.{ℕ, _≤_}
 use lib.Dec.{eqb}
 use lib.ListN.{length}
-use Rattle.circuit.specs.declared.Gate.{Gate}
-use Rattle.circuit.specs.Sum.{areGates}
 use Rattle.held.specs.declared.Held.{Held}
-use Rattle.held.specs.Circuit.{Circuit, withGates}
+use Rattle.held.specs.Circuit.{Circuit}
 use Rattle.held.specs.Memory.{encodeCircuit, stored, SoundCircuit, Stored}
 use Rattle.forms.specs.Typed.{Typed, row}
 use Rattle.forms.specs.Spelling.{Reading, typed, gatesIn}
-use Rattle.answers.specs.declared.Answer.the-variants as Answer
 use Rattle.refusals.specs.Refusals.{places}
 use Rattle.sums.specs.declared.Sum.{Sum}
 use Rattle.sums.specs.Sums.{Opened, encodeSum}
 use Rattle.sums.specs.Soundness.{SoundOpened}
-use Rattle.turns.specs.declared.Turn.{Turn as Left}
-use Rattle.turns.specs.Turns.{Turn, gives, accepted, refusalOf, turnOf}
+use Rattle.stages.specs.declared.Turn.{Turn as Left}
+use Rattle.stages.specs.Stages.{accepted}
+use Rattle.stages.specs.Promises.{Done}
+use Rattle.turns.specs.Turns.{refusalOf, turnOf}
 
 -- The state and the lent history of a circuit and a sum: the history's first places hold the gates' codes, and it has room for them.
 pub record Stands (c : Circuit) (o : Opened) (k : Held) (x : Sum) (h : List ℕ) : Type 0 where
@@ -28,27 +27,6 @@ pub record Stands (c : Circuit) (o : Opened) (k : Held) (x : Sum) (h : List ℕ)
   pub room : length (c .gates) ≤ places (length h)
   pub sound : SoundCircuit c
   pub opened : SoundOpened (c .m) o
-
--- A turn was made: the state and the answer.
-pub record Done (t : Turn) (r : Left) : Type 0 where
-  pub circuit : r .circuit ≡ encodeCircuit (t .circuit)
-  pub sum : r .sum ≡ encodeSum (t .opened)
-  pub answer : r .answer ≡ t .answer
-
--- What a stage makes of a circuit and a sum.
-abbrev pub Does : (Circuit → Opened → Turn) → Held → Sum → Left → Type 0
-Does f k x r = (c : Circuit) (o : Opened) → SoundCircuit c → SoundOpened (c .m) o → k ≡ encodeCircuit c → x ≡ encodeSum o → Done (f c o) r
-
--- Gates were put behind those of the circuit: the state, the answer and the history.
-pub record Built (c : Circuit) (o : Opened) (gs : List Gate) (h : List ℕ) (r : Left) (h' : List ℕ) : Type 0 where
-  pub turn : Done (gives (withGates gs c) o Answer.Ok) r
-  pub history : h' ≡ stored (length (c .gates)) gs h
-
--- What a stage for gates makes of a circuit and a sum, if they are gates and have room.
-abbrev pub Builds : List Gate → Held → Sum → List ℕ → Left → List ℕ → Type 0
-Builds gs k x h r h' =
-    (c : Circuit) (o : Opened) → k ≡ encodeCircuit c → x ≡ encodeSum o → areGates 16 gs ≡ true → length (c .gates) + length gs ≤ length h →
-    Built c o gs h r h'
 
 -- A form that no place turned back was taken: the state, the answer and the history.
 pub record Taken (c : Circuit) (o : Opened) (h : List ℕ) (t : Typed) (r : Left) (h' : List ℕ) : Type 0 where

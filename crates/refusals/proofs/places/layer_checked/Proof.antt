@@ -8,7 +8,7 @@ use native.Mathlib.Omega.{arith}
 use denote.Ref.{now}
 use Rattle.gates.specs.Gates.{gatesMet}
 use Rattle.refusals.specs.Refusals.{inRange, onItself, allInRange, anyOnItself}
-use Rattle.refusals.proofs.RefusalLaws.{met-next, met-end, met-all}
+use Rattle.gates.proofs.LayerWalk.{met-next, met-end, met-all}
 use borrow.Author.Needs.{needs}
 use Rattle.refusals.proofs.places.layer_checked.Statement.{statement}
 use Rattle.refusals.proofs.places.layer_checked.Tie as tie
