@@ -24,13 +24,14 @@ use Rattle.forms.specs.Spelling.{Reading, typed, refused}
 use Rattle.lines.specs.Readings.{readingOf}
 use Rattle.forms.specs.Held.{gateForm, held, heldReading}
 use Rattle.lines.proofs.LayerLine.{handed-on, layer-walked}
-use Rattle.refusals.specs.declared.rows.Strings.{Strings}
-use Rattle.refusals.specs.declared.rows.Strings.the-variants as Strings
-use Rattle.refusals.specs.declared.rows.Gates.{Gates}
-use Rattle.refusals.specs.declared.rows.Gates.the-variants as Gates
-use Rattle.refusals.specs.declared.rows.HeldRow.{HeldRow}
-use Rattle.refusals.specs.declared.rows.FormRow.the-variants as FormRow
-use Rattle.refusals.specs.HeldRows.{heldRow, notLong, wrongLength, metGates, countOf, Tells}
+use Rattle.rows.specs.declared.Strings.{Strings}
+use Rattle.rows.specs.declared.Strings.the-variants as Strings
+use Rattle.rows.specs.declared.Gates.{Gates}
+use Rattle.rows.specs.declared.Gates.the-variants as Gates
+use Rattle.rows.specs.declared.HeldRow.{HeldRow}
+use Rattle.rows.specs.declared.FormRow.the-variants as FormRow
+use Rattle.rows.specs.Rows.{heldRow}
+use Rattle.refusals.specs.HeldRows.{notLong, wrongLength, metGates, countOf, Tells}
 use Rattle.refusals.specs.Refusals.{orElse, refusedIf, isClass, within, inRange, allInRange, outOfRange, anyOnItself, anyNotLong, operandRefusal, places, undoesMore, historyRefusal}
 
 -- ---- capped numbers

@@ -12,15 +12,15 @@ ghost use Rattle.lines.specs.Readings.{readingOf};
 ghost use Rattle.forms.specs.Typed.{Typed, row as typedRow};
 ghost use Rattle.refusals.specs.HeldRows.{notLong, wrongLength, metGates, countOf, Tells};
 ghost use Rattle.refusals.specs.Refusals.{isClass, works, momentRefusal, inRange, onItself, allInRange, anyOnItself, within, operandRefusal, places, historyRefusal, rowRefusal, refusalBy};
-use crate::rows::FormRow;
-use crate::rows::Gates;
-use crate::rows::HeldRow;
-use crate::rows::Strings;
-use crate::rows::row_of;
 use circuit::Gate;
 use forms::Class;
 use forms::Form;
 use gates::GateAt;
+use rows::FormRow;
+use rows::Gates;
+use rows::HeldRow;
+use rows::Strings;
+use rows::row_of;
 use text::Bits;
 
 fn creates(class: Class) -> bool

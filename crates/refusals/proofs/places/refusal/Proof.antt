@@ -2,7 +2,7 @@
 use mathlib.Core.Path.{refl, ap, sym, _∙_}
 use denote.Ref.{now}
 use Rattle.lines.specs.Readings.{readingOf}
-use Rattle.refusals.specs.HeldRows.{heldRow}
+use Rattle.rows.specs.Rows.{heldRow}
 use Rattle.refusals.specs.Refusals.{refusalBy}
 use Rattle.refusals.proofs.RowsHeld.{row-of-form, row-refused}
 use borrow.Author.Needs.{needs}

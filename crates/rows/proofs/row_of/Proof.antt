@@ -1,8 +1,8 @@
 -- Each arm is told its form, and makes the row that `heldRow` gives of it.
-use Rattle.refusals.specs.HeldRows.{heldRow}
+use Rattle.rows.specs.Rows.{heldRow}
 use borrow.Author.Needs.{needs}
-use Rattle.refusals.proofs.rows.row_of.Statement.{statement}
-use Rattle.refusals.proofs.rows.row_of.Tie as tie
+use Rattle.rows.proofs.row_of.Statement.{statement}
+use Rattle.rows.proofs.row_of.Tie as tie
 
 enum-known-form : tie.Need-enum-known-form
 enum-known-form c = search needs

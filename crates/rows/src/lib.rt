@@ -1,35 +1,35 @@
 // The row of a form: all that the places of refusal ask of it, by what is held of the form.
 ghost use mathlib.Core.Path.{_≡_};
-ghost use Rattle.refusals.specs.HeldRows.{numberedRow, stringRow, gateRow, heldRow};
+ghost use Rattle.rows.specs.Rows.{numberedRow, stringRow, gateRow, heldRow};
 use circuit::Gate;
 use forms::Class;
 use forms::Form;
 use text::Bits;
 
-pub(crate) enum Strings {
+pub enum Strings {
     None,
     Two(Bits, Bits),
     Three(Bits, Bits, Bits),
 }
 
 // The gates of a line: one that is held, or so many that stand in the line.
-pub(crate) enum Gates {
+pub enum Gates {
     None,
     One(Gate),
     Layer(usize),
 }
 
 // A number of 0 from 0 to 0 stands for none.
-pub(crate) struct HeldRow {
-    pub(crate) class: Class,
-    pub(crate) number: usize,
-    pub(crate) least: usize,
-    pub(crate) most: usize,
-    pub(crate) strings: Strings,
-    pub(crate) gates: Gates,
+pub struct HeldRow {
+    pub class: Class,
+    pub number: usize,
+    pub least: usize,
+    pub most: usize,
+    pub strings: Strings,
+    pub gates: Gates,
 }
 
-pub(crate) enum FormRow {
+pub enum FormRow {
     Row(HeldRow),
     Refused(u8),
 }
@@ -74,7 +74,7 @@ fn with_gates(gates: Gates, count: usize) -> FormRow
 }
 
 // Each form in its row.
-pub(crate) fn row_of(form: Form) -> FormRow
+pub fn row_of(form: Form) -> FormRow
     ensures { λ r. ⌜ r ≡ heldRow form ⌝ }
 {
     match form {
