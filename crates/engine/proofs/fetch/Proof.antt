@@ -28,7 +28,12 @@ enum-told c = search needs
 
 returns-4 : tie.Need-returns-4
 returns-4 c e h k =
-    fetch-past e _ h _ k _ (c .before .before .before .before .before .before .before .if1 .left) (c .before .before .before .before .before .before .if2 .left) (not-false _ (c .before .before .before .before .if3 .left)) _ (c .before .before .term-at .ensures) (c .enum-told .given .1)
+    let read = c .before .before in
+    let listed = read .before .before in
+    let numbered = listed .before .before in
+    fetch-past e _ h _ k _ (numbered .before .if1 .left) (numbered .if2 .left) (not-false _ (listed .if3 .left)) _
+    (read .term-at .ensures)
+    (c .enum-told .given .1)
 
 write-requires : tie.Need-write-requires
 write-requires c κs = search needs
@@ -38,7 +43,16 @@ same-length c = search needs
 
 returns-5 : tie.Need-returns-5
 returns-5 c e h k =
-    fetch-line e _ h _ k _ (c .before .before .before .before .before .before .before .before .before .before .before .before .if1 .left) (c .before .before .before .before .before .before .before .before .before .before .before .if2 .left) (not-false _ (c .before .before .before .before .before .before .before .before .before .if3 .left)) _ (c .before .before .before .before .before .before .before .term-at .ensures) _ _ _ (c .before .before .before .before .before .gate .given .1) (c .before .before .write .ensures)
+    let written = c .before .before in
+    let found = written .before .before .before in
+    let read = found .before .before in
+    let listed = read .before .before in
+    let numbered = listed .before .before in
+    fetch-line e _ h _ k _ (numbered .before .if1 .left) (numbered .if2 .left) (not-false _ (listed .if3 .left)) _
+    (read .term-at .ensures)
+    _ _ _
+    (found .gate .given .1)
+    (written .write .ensures)
 
 pub fetch-spec : {M : Type 1} → statement M
 fetch-spec =
