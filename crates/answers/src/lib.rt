@@ -1,8 +1,8 @@
 // Answer lines, written to the front of a lent buffer.
 ghost use mathlib.Core.Path.{_≡_};
 ghost use mathlib.Core.List.{[], _∷_, _++_};
-ghost use Prim.Native.Nat.{_+_, _≤_, _<_};
-ghost use lib.ListN.{length, take};
+ghost use Prim.Native.Nat.{_≤_};
+ghost use lib.ListN.{take};
 ghost use lib.IntN.{natAbs};
 ghost use Rattle.text.specs.Spelling.{bytes, decimal, signedDecimal, letter, spelledSpot, spelledGate};
 ghost use Rattle.answers.specs.Answers.{bytesOf, Written};
@@ -44,11 +44,14 @@ fn no_text() -> Text
     }
 }
 
+// The byte after the text's own; a full text stays as it is.
 fn push_byte(text: Text, byte: u8) -> Text
-    requires { ⌜ text .len < 96 ⌝ }
     ensures { λ r. ⌜ r ≡ joined text (byte ∷ []) ⌝ }
 {
     let at = text.len;
+    if at >= ROOM {
+        return text;
+    }
     let mut next = text;
     next.bytes[at] = byte;
     next.len = at + 1;
@@ -56,7 +59,6 @@ fn push_byte(text: Text, byte: u8) -> Text
 }
 
 fn push_word(text: Text, word: &[u8]) -> Text
-    requires { ⌜ text .len + length (now word) ≤ 96 ⌝ }
     ensures { λ r. ⌜ r ≡ joined text (now (word .entry)) ⌝ }
 {
     let mut next = text;
@@ -70,7 +72,6 @@ fn push_word(text: Text, word: &[u8]) -> Text
 
 // The digits of the tenth first, then the last digit.
 fn push_number(text: Text, n: u64) -> Text
-    requires { ⌜ text .len + length (decimal n) ≤ 96 ⌝ }
     ensures { λ r. ⌜ r ≡ joined text (decimal n) ⌝ }
 {
     if n < 10 {
@@ -91,7 +92,6 @@ fn magnitude(s: i64) -> u64
 }
 
 fn push_signed(text: Text, s: i64) -> Text
-    requires { ⌜ text .len + length (signedDecimal s) ≤ 96 ⌝ }
     ensures { λ r. ⌜ r ≡ joined text (signedDecimal s) ⌝ }
 {
     let n = magnitude(s);
@@ -104,7 +104,6 @@ fn push_signed(text: Text, s: i64) -> Text
 
 // A space, and then the number (Manual 4.2).
 fn push_spaced(text: Text, n: u64) -> Text
-    requires { ⌜ text .len + (length (decimal n) + 1) ≤ 96 ⌝ }
     ensures { λ r. ⌜ r ≡ joined text (bytes " " ++ decimal n) ⌝ }
 {
     let spaced = push_word(text, b" ");
@@ -122,7 +121,6 @@ fn letter_of(c: Colour) -> u8
 }
 
 fn push_spot(text: Text, spot: Spot) -> Text
-    requires { ⌜ text .len + length (spelledSpot spot) ≤ 96 ⌝ }
     ensures { λ r. ⌜ r ≡ joined text (spelledSpot spot) ⌝ }
 {
     let colour = spot.colour;
@@ -135,14 +133,12 @@ fn push_spot(text: Text, spot: Spot) -> Text
 
 // A text of one word.
 fn text_of(word: &[u8]) -> Text
-    requires { ⌜ length (now word) ≤ 96 ⌝ }
     ensures { λ r. ⌜ r ≡ textOf (now (word .entry)) ⌝ }
 {
     push_word(no_text(), word)
 }
 
 fn number_line(word: &[u8], n: u64) -> Text
-    requires { ⌜ length (now word) ≤ 8 ⌝ }
     ensures { λ r. ⌜ r ≡ textOf (now (word .entry) ++ (decimal n ++ bytes ")")) ⌝ }
 {
     let numbered = push_number(text_of(word), n);

@@ -1,8 +1,15 @@
--- The byte is stored at the text's length, which its `requires` keeps inside the place.
-use Rattle.answers.proofs.Texts.{joined-byte}
+-- A byte with room for it is stored at the text's length.
+use mathlib.Core.Path.{sym}
 use borrow.Author.Needs.{needs}
+use borrow.Author.Tests.{le-ltb}
+use Rattle.answers.specs.Texts.{pushed, joined}
+use Rattle.answers.proofs.Texts.{pushed-stored}
 use Rattle.answers.proofs.push_byte.Statement.{statement}
 use Rattle.answers.proofs.push_byte.Tie as tie
+
+returns : tie.Need-returns
+unfolding joined pushed
+returns c = rw (le-ltb (c .before .args .text .len) 96 (search needs))
 
 element-write-next : tie.Need-element-write-next
 element-write-next c = search needs
@@ -10,8 +17,9 @@ element-write-next c = search needs
 add-next : tie.Need-add-next
 add-next c = search needs
 
-returns : tie.Need-returns
-returns c = joined-byte (c .args .text) (c .args .byte) (search needs)
+returns-2 : tie.Need-returns-2
+unfolding joined
+returns-2 c = sym (pushed-stored (c .before .args .text) (c .before .args .byte) (search needs))
 
 pub push-byte-spec : {M : Type 1} → statement M
-push-byte-spec = tie.close (tie.spec element-write-next add-next returns)
+push-byte-spec = tie.close (tie.spec returns element-write-next add-next returns-2)

@@ -1,8 +1,6 @@
 -- A space, and then the number's digits.
-use native.Mathlib.Omega.{arith}
-use Rattle.text.specs.Spelling.{bytes, decimal}
-use Rattle.answers.proofs.Texts.{inside, joined-then, joined-len}
 use borrow.Author.Needs.{needs}
+use Rattle.answers.proofs.Texts.{joined-joined}
 use Rattle.answers.proofs.push_spaced.Statement.{statement}
 use Rattle.answers.proofs.push_spaced.Tie as tie
 
@@ -13,15 +11,10 @@ push-word-requires : tie.Need-push-word-requires
 push-word-requires c κs = search needs
 
 push-number-requires : tie.Need-push-number-requires
-push-number-requires c κs = omega (arith, joined-len _ _ (c .push-word .ensures))
+push-number-requires c κs = search needs
 
 returns : tie.Need-returns
-returns c =
-    let a = c .before .before .before in
-    joined-then (a .args .text) (bytes " ") (decimal (a .args .n))
-    (inside (a .args .text) (a .good .0 .1 .1 .0 .1 .0 .1) (omega (arith, a .pre)))
-    (c .before .push-word .ensures)
-    (c .push-number .ensures)
+returns c = simp (c .push-number .ensures, c .before .push-word .ensures, joined-joined)
 
 pub push-spaced-spec : {M : Type 1} → statement M
 push-spaced-spec =

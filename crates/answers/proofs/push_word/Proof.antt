@@ -1,34 +1,30 @@
 -- The loop's invariant: the text has the word's first i bytes joined to it. The measure is what is left of the word.
 use Prim.Native.Nat.{_≤_, _-_}
-use mathlib.Core.Path.{_≡_, sym, ap, _∙_}
 use native.Mathlib.Omega.{arith}
+use mathlib.Core.Path.{_≡_, refl, ap, _∙_}
 use lib.ListN.{length, take}
-use lib.Seq.{length-take-le, take-all}
-use Rattle.answers.specs.Texts.{joined}
-use Rattle.answers.proofs.Texts.{inside, joined-none, joined-len, joined-next}
+use lib.Seq.{take-all}
 use borrow.Author.Needs.{needs}
+use Rattle.answers.specs.Texts.{joined}
+use Rattle.answers.proofs.Texts.{joined-next}
 use Rattle.answers.proofs.push_word.Statement.{statement}
 use Rattle.answers.proofs.push_word.Tie as tie
 
 abbrev Inv-loop : tie.InvT-loop
-Inv-loop word next₀ i₀ next i = (next₀ .len ≤ length (next₀ .bytes)) × (i ≤ length word) × (next ≡ joined next₀ (take i word))
+Inv-loop word next₀ i₀ next i = (i ≤ length word) × (next ≡ joined next₀ (take i word))
 
 abbrev μ-loop : tie.MeasureT-loop
 μ-loop word next₀ i₀ next i = length word - i
 
 loop-holds : tie.Need-loop-holds Inv-loop μ-loop
-loop-holds c = (inside (c .before .args .text) (c .before .good .0 .1 .1 .0 .1 .0 .1) (omega arith), omega arith, sym (joined-none _))
+unfolding joined
+loop-holds c = (omega arith, refl)
 
 shared-slice-read-push-byte : tie.Need-shared-slice-read-push-byte Inv-loop μ-loop
 shared-slice-read-push-byte c = search needs
 
 push-byte-requires : tie.Need-push-byte-requires Inv-loop μ-loop
-push-byte-requires c κs =
-    omega (
-      arith,
-      joined-len _ _ (c .before .before .loop .inv .2),
-      length-take-le (c .before .before .loop .i) (c .before .before .before .before .args .word .now) (c .before .before .loop .inv .1),
-    )
+push-byte-requires c κs = search needs
 
 add-i : tie.Need-add-i Inv-loop μ-loop
 add-i c = search needs
@@ -38,19 +34,14 @@ loop-less c = search needs
 
 loop-again : tie.Need-loop-again Inv-loop μ-loop
 loop-again c =
-    let w = c .before .before .before .before .before .args .word .now in
+    let a = c .before .before .before .before .before .args in
     let at-loop = c .before .before .before .loop in (
-      at-loop .inv .0,
       omega arith,
-      joined-next (c .before .before .before .before .before .args .text) w (at-loop .i)
-          (at-loop .inv .0)
-          (c .before .before .loop-test .taken)
-          (at-loop .inv .2)
-          (c .push-byte .ensures),
+      joined-next (a .text) (a .word .now) (at-loop .i) (c .before .before .loop-test .taken) (at-loop .inv .1) (c .push-byte .ensures),
     )
 
 returns : tie.Need-returns Inv-loop μ-loop
-returns c = c .before .loop .inv .2 ∙ ap (joined _) (take-all _ _ (c .loop-test .left))
+returns c = c .before .loop .inv .1 ∙ ap (joined _) (take-all _ _ (c .loop-test .left))
 
 pub push-word-spec : {M : Type 1} → statement M
 push-word-spec =
