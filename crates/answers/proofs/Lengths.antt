@@ -8,17 +8,17 @@ use lib.ListN.{length, length-append}
 use mir.Syntax.{w64}
 use mir.Val.{Val, SFits}
 use denote.Laws.{Is}
-use Rattle.circuit.proofs.Gate.{the-row as the-gate}
-use Rattle.answers.proofs.Answer.{the-row}
 use Rattle.circuit.specs.declared.Spot.{Spot}
 use Rattle.circuit.specs.declared.Gate.{Gate}
 use Rattle.circuit.specs.declared.Gate.the-variants.{Ccz, Cz, Cnot}
+use Rattle.circuit.proofs.Gate.{the-row as gate-row}
 use Rattle.text.specs.Spelling.{bytes, decimal, signedDecimal, spelledSpot, spelledGate}
 use Rattle.text.proofs.DecimalUnique.{decimal-length}
+use Rattle.writing.proofs.Signed.{distance-bound}
 use Rattle.answers.specs.declared.Answer.{Answer}
 use Rattle.answers.specs.declared.Answer.the-variants.{Ok, Left, Amplitude, Readout, Terms, Listed, Refused}
 use Rattle.answers.specs.Answers.{bytesOf}
-use Rattle.answers.proofs.Signed.{distance-bound}
+use Rattle.answers.proofs.Answer.{the-row}
 
 -- A sign is one byte more.
 pub signed-length : (k : ℕ) (s : ℤ) → natAbs s < 10 ^ k → 1 ≤ k → length (signedDecimal s) ≤ suc k
@@ -40,7 +40,7 @@ signed-word s f = signed-length 19 s (omega (arith, distance-bound s f)) (omega 
 
 -- ---- of answers as the code holds them: each number fits its type
 
-gate-within : (g : Gate) (v : List Val) → Is the-gate g v → length (spelledGate g) ≤ 96
+gate-within : (g : Gate) (v : List Val) → Is gate-row g v → length (spelledGate g) ≤ 96
 unfolding spelledGate
 gate-within (Ccz i j k) v p =
     simp length-append (omega (arith, decimal-word i (omega arith), decimal-word j (omega arith), decimal-word k (omega arith)))

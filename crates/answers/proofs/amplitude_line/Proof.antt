@@ -3,7 +3,7 @@ use mathlib.Core.List.{append-assoc}
 use borrow.Author.Needs.{needs}
 use mir.Facts.{toZ-ofZ}
 use Rattle.answers.specs.Answers.{bytesOf}
-use Rattle.answers.proofs.Texts.{text-joined}
+use Rattle.writing.proofs.Texts.{text-joined}
 use Rattle.answers.proofs.amplitude_line.Statement.{statement}
 use Rattle.answers.proofs.amplitude_line.Tie as tie
 
@@ -19,33 +19,22 @@ push-signed-requires c κs = search needs
 push-spaced-requires : tie.Need-push-spaced-requires
 push-spaced-requires c κs = search needs
 
-slice-aggregate-push-word : tie.Need-slice-aggregate-push-word
-slice-aggregate-push-word c = search needs
-
-push-word-requires : tie.Need-push-word-requires
-push-word-requires c κs = search needs
+push-byte-requires : tie.Need-push-byte-requires
+push-byte-requires c κs = search needs
 
 returns : tie.Need-returns
 unfolding bytesOf
 returns c =
     simp (
-      c .push-word .ensures,
-      c .before .before .push-spaced .ensures,
-      c .before .before .before .push-signed .ensures,
-      c .before .before .before .before .text-of .ensures,
-      toZ-ofZ (c .before .before .before .before .before .before .fits .s),
+      c .push-byte .ensures,
+      c .before .push-spaced .ensures,
+      c .before .before .push-signed .ensures,
+      c .before .before .before .text-of .ensures,
+      toZ-ofZ (c .before .before .before .before .before .fits .s),
       text-joined,
       append-assoc,
     )
 
 pub amplitude-line-spec : {M : Type 1} → statement M
 amplitude-line-spec =
-    tie.close
-    (tie.spec
-    slice-aggregate-text-of
-    text-of-requires
-    push-signed-requires
-    push-spaced-requires
-    slice-aggregate-push-word
-    push-word-requires
-    returns)
+    tie.close (tie.spec slice-aggregate-text-of text-of-requires push-signed-requires push-spaced-requires push-byte-requires returns)

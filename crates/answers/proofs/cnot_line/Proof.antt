@@ -2,7 +2,7 @@
 use mathlib.Core.List.{append-assoc}
 use borrow.Author.Needs.{needs}
 use Rattle.text.specs.Spelling.{spelledGate}
-use Rattle.answers.proofs.Texts.{text-joined}
+use Rattle.writing.proofs.Texts.{text-joined}
 use Rattle.answers.proofs.cnot_line.Statement.{statement}
 use Rattle.answers.proofs.cnot_line.Tie as tie
 
@@ -24,36 +24,23 @@ push-spaced-requires c κs = search needs
 push-spaced-requires-2 : tie.Need-push-spaced-requires-2
 push-spaced-requires-2 c κs = search needs
 
-slice-aggregate-push-word : tie.Need-slice-aggregate-push-word
-slice-aggregate-push-word c = search needs
-
-push-word-requires : tie.Need-push-word-requires
-push-word-requires c κs = search needs
+push-byte-requires-2 : tie.Need-push-byte-requires-2
+push-byte-requires-2 c κs = search needs
 
 returns : tie.Need-returns
 unfolding spelledGate
 returns c =
     simp (
-      c .push-word .ensures,
-      c .before .before .push-spaced2 .ensures,
-      c .before .before .before .push-spaced .ensures,
-      c .before .before .before .before .push-byte .ensures,
-      c .before .before .before .before .before .letter-of .ensures,
-      c .before .before .before .before .before .before .text-of .ensures,
+      c .push-byte2 .ensures,
+      c .before .push-spaced2 .ensures,
+      c .before .before .push-spaced .ensures,
+      c .before .before .before .push-byte .ensures,
+      c .before .before .before .before .letter-of .ensures,
+      c .before .before .before .before .before .text-of .ensures,
       text-joined,
       append-assoc,
     )
 
 pub cnot-line-spec : {M : Type 1} → statement M
 cnot-line-spec =
-    tie.close
-    (tie.spec
-    slice-aggregate-text-of
-    text-of-requires
-    letter-of-requires
-    push-byte-requires
-    push-spaced-requires
-    push-spaced-requires-2
-    slice-aggregate-push-word
-    push-word-requires
-    returns)
+    tie.close (tie.spec slice-aggregate-text-of text-of-requires letter-of-requires push-byte-requires push-spaced-requires push-spaced-requires-2 push-byte-requires-2 returns)

@@ -1,7 +1,7 @@
 -- A word, a number and the bracket.
 use mathlib.Core.List.{append-assoc}
 use borrow.Author.Needs.{needs}
-use Rattle.answers.proofs.Texts.{text-joined}
+use Rattle.writing.proofs.Texts.{text-joined}
 use Rattle.answers.proofs.number_line.Statement.{statement}
 use Rattle.answers.proofs.number_line.Tie as tie
 
@@ -11,28 +11,19 @@ text-of-requires c κs = search needs
 push-number-requires : tie.Need-push-number-requires
 push-number-requires c κs = search needs
 
-slice-aggregate-push-word : tie.Need-slice-aggregate-push-word
-slice-aggregate-push-word c = search needs
-
-push-word-requires : tie.Need-push-word-requires
-push-word-requires c κs = search needs
+push-byte-requires : tie.Need-push-byte-requires
+push-byte-requires c κs = search needs
 
 returns : tie.Need-returns
 returns c =
     simp (
-      c .push-word .ensures,
-      c .before .before .push-number .ensures,
-      c .before .before .before .text-of .ensures,
+      c .push-byte .ensures,
+      c .before .push-number .ensures,
+      c .before .before .text-of .ensures,
       text-joined,
       append-assoc,
     )
 
 pub number-line-spec : {M : Type 1} → statement M
 number-line-spec =
-    tie.close
-    (tie.spec
-    text-of-requires
-    push-number-requires
-    slice-aggregate-push-word
-    push-word-requires
-    returns)
+    tie.close (tie.spec text-of-requires push-number-requires push-byte-requires returns)

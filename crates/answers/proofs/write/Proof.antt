@@ -4,7 +4,7 @@ use native.Mathlib.Omega.{arith}
 use lib.ListN.{length}
 use borrow.Author.Needs.{needs}
 use Rattle.answers.specs.Answers.{bytesOf}
-use Rattle.answers.proofs.Texts.{text-len, text-own}
+use Rattle.writing.proofs.Texts.{text-len, text-own}
 use Rattle.answers.proofs.Lengths.{answer-within}
 use Rattle.answers.proofs.write.Statement.{statement}
 use Rattle.answers.proofs.write.Tie as tie

@@ -2,10 +2,10 @@
 use mathlib.Core.Path.{sym}
 use borrow.Author.Needs.{needs}
 use borrow.Author.Tests.{le-ltb}
-use Rattle.answers.specs.Texts.{pushed, joined}
-use Rattle.answers.proofs.Texts.{pushed-stored}
-use Rattle.answers.proofs.push_byte.Statement.{statement}
-use Rattle.answers.proofs.push_byte.Tie as tie
+use Rattle.writing.specs.Texts.{pushed, joined}
+use Rattle.writing.proofs.Texts.{pushed-stored}
+use Rattle.writing.proofs.push_byte.Statement.{statement}
+use Rattle.writing.proofs.push_byte.Tie as tie
 
 returns : tie.Need-returns
 unfolding joined pushed

@@ -1,19 +1,17 @@
 -- The digits of a number are those of its tenth and the last one. The measure is the number.
-use mathlib.Core.Path.{sym, ap, _∙_}
 use native.Mathlib.Omega.{arith}
 use Rattle.text.proofs.Decimal.{decimal-one, decimal-more, tenth-less}
-use Rattle.answers.specs.Texts.{joined}
-use Rattle.answers.proofs.Texts.{joined-joined}
+use Rattle.writing.proofs.Texts.{joined-joined}
 use borrow.Author.Needs.{needs}
 use Prim.Native.Nat.{ℕ, _<_}
 use borrow.Fn.Kinds.{In}
 use borrow.Fn.PlainCycle.{Measures, is, falls, and}
-use Rattle.answers.proofs.push_number.Reads as push-number
-use Rattle.answers.proofs.push_number.Kinds as push-number-kinds
-use Rattle.answers.proofs.+push_number.Lts-push_number as push-number-lts
-use Rattle.answers.proofs.push_byte.Reads as push-byte-reads
-use Rattle.answers.proofs.+push_number.{statement}
-use Rattle.answers.proofs.+push_number.Tie.{close}
+use Rattle.writing.proofs.push_number.Reads as push-number
+use Rattle.writing.proofs.push_number.Kinds as push-number-kinds
+use Rattle.writing.proofs.+push_number.Lts-push_number as push-number-lts
+use Rattle.writing.proofs.push_byte.Reads as push-byte-reads
+use Rattle.writing.proofs.+push_number.{statement}
+use Rattle.writing.proofs.+push_number.Tie.{close}
 
 abbrev μ-push-number : Measures 0 push-number-kinds.ps ℕ
 μ-push-number κs a = a .1 .0
@@ -56,7 +54,7 @@ push-number-returns : (t : ℕ) → push-number-lts.Need-returns (
   push-number-below t,
   push-number.Post,
 ) (push-number-at t) push-number.Post
-push-number-returns t c = c .push-byte .ensures ∙ ap (joined _) (sym (decimal-one _ (c .before .if1 .taken)))
+push-number-returns t c = simp (c .push-byte .ensures, decimal-one (c .before .before .args .n) (omega arith))
 
 push-number-push-number-requires : (t : ℕ) → push-number-lts.Need-push-number-requires (
   push-byte-reads.Asked,
@@ -64,7 +62,7 @@ push-number-push-number-requires : (t : ℕ) → push-number-lts.Need-push-numbe
   push-number-below t,
   push-number.Post,
 ) (push-number-at t) push-number.Post
-push-number-push-number-requires t c κs = (omega (arith, tenth-less (c .before .args .n) (c .if1 .left)), tt)
+push-number-push-number-requires t c κs = (omega (arith, tenth-less (c .before .args .n) (omega arith)), tt)
 
 push-number-cast-push-byte-2 : (t : ℕ) → push-number-lts.Need-cast-push-byte-2 (
   push-byte-reads.Asked,
@@ -101,7 +99,7 @@ push-number-returns-2 t c =
       c .push-byte2 .ensures,
       c .before .push-number .ensures,
       joined-joined,
-      decimal-more (c .before .before .before .args .n) (c .before .before .if1 .left),
+      decimal-more (c .before .before .before .args .n) (omega arith),
     )
 
 pub +push-number-spec : {M : Type 1} → statement M

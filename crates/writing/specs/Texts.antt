@@ -4,7 +4,7 @@ use mathlib.Core.Bool.{cond}
 use mathlib.Core.List.{List, [], _∷_}
 use lib.Dec.{ltb}
 use lib.ListN.{set, replicate}
-use Rattle.answers.specs.declared.Text.{Text}
+use Rattle.writing.specs.declared.Text.{Text}
 
 -- One byte after the text's own. A full text stays as it is.
 unfoldable pub pushed : Text → ℕ → Text

@@ -4,11 +4,11 @@ use mathlib.Core.Bool.{true, false}
 use lib.IntN.{pos, natAbs}
 use lib.Signed.{ltZ}
 use mir.Facts.{toZ-ofZ}
-use Rattle.answers.specs.Texts.{joined}
-use Rattle.answers.proofs.Signed.{signed-negative, signed-plain}
+use Rattle.writing.proofs.Texts.{joined-joined}
+use Rattle.writing.proofs.Signed.{signed-negative, signed-plain}
 use borrow.Author.Needs.{needs}
-use Rattle.answers.proofs.push_signed.Statement.{statement}
-use Rattle.answers.proofs.push_signed.Tie as tie
+use Rattle.writing.proofs.push_signed.Statement.{statement}
+use Rattle.writing.proofs.push_signed.Tie as tie
 
 distance : (c : tie.After-magnitude) → c .magnitude .result ≡ natAbs (c .before .args .s)
 distance c = c .magnitude .ensures ∙ ap natAbs (toZ-ofZ (c .before .fits .s))
@@ -29,19 +29,23 @@ push-number-requires : tie.Need-push-number-requires
 push-number-requires c κs = search needs
 
 returns : tie.Need-returns
-unfolding joined
 returns c =
     let m = c .before .before .before in
-    c .push-number .ensures
-    ∙ rw (c .before .push-byte .ensures, distance m, signed-negative (m .before .args .s) (negative (c .before .before)))
+    simp (
+      c .push-number .ensures,
+      c .before .push-byte .ensures,
+      distance m,
+      signed-negative (m .before .args .s) (negative (c .before .before)),
+      joined-joined,
+    )
 
 push-number-requires-2 : tie.Need-push-number-requires-2
 push-number-requires-2 c κs = search needs
 
 returns-2 : tie.Need-returns-2
 returns-2 c =
-    c .push-number2 .ensures
-    ∙ rw (distance (c .before .before), signed-plain (c .before .before .before .args .s) (plain (c .before)))
+    let m = c .before .before in
+    simp (c .push-number2 .ensures, distance m, signed-plain (m .before .args .s) (plain (c .before)))
 
 pub push-signed-spec : {M : Type 1} → statement M
 push-signed-spec =

@@ -8,8 +8,8 @@ use mathlib.Core.List.{List, [], _∷_, _++_, append-assoc, append-nil}
 use lib.ListN.{length, getD, take, set, length-set}
 use lib.Seq.{take-suc, take-suc-set}
 use borrow.Author.Tests.{lt-ltb}
-use Rattle.answers.specs.declared.Text.{Text}
-use Rattle.answers.specs.Texts.{pushed, joined, noText, textOf}
+use Rattle.writing.specs.declared.Text.{Text}
+use Rattle.writing.specs.Texts.{pushed, joined, noText, textOf}
 
 pub joined-joined : (t : Text) (a b : List ℕ) → joined (joined t a) b ≡ joined t (a ++ b)
 unfolding joined
@@ -21,9 +21,9 @@ unfolding textOf
 text-joined a b = joined-joined noText a b
 
 -- The next byte of a word, after those before it.
-pub joined-next : (t : Text) (w : List ℕ) (i : ℕ) {s r : Text} → i < length w →
-    s ≡ joined t (take i w) → r ≡ joined s (getD w i 0 ∷ []) → r ≡ joined t (take (i + 1) w)
-joined-next t w i k e f = f ∙ ap (λ s. joined s (getD w i 0 ∷ [])) e ∙ joined-joined t _ _ ∙ rw (add-one, take-suc w i 0 k)
+pub text-next : (w : List ℕ) (i : ℕ) {s r : Text} → i < length w →
+    s ≡ textOf (take i w) → r ≡ joined s (getD w i 0 ∷ []) → r ≡ textOf (take (i + 1) w)
+text-next w i h e f = f ∙ ap (λ s. joined s (getD w i 0 ∷ [])) e ∙ text-joined _ _ ∙ rw (add-one, take-suc w i 0 h)
 
 -- ---- where there is room
 
