@@ -2,19 +2,23 @@
 use Prim.Native.Nat.{ℕ, suc, _+_, _<_, _≤_, _^_}
 use native.Mathlib.Omega.{arith}
 use mathlib.Core.Path.{_≡_}
+use mathlib.Core.List.{List}
 use lib.IntN.{ℤ, pos, negsuc, natAbs}
 use lib.ListN.{length, length-append}
 use mir.Syntax.{w64}
-use mir.Val.{Fits, SFits}
+use mir.Val.{Val, SFits}
+use denote.Laws.{Is}
 use Rattle.circuit.specs.declared.Spot.{Spot}
 use Rattle.circuit.specs.declared.Gate.{Gate}
 use Rattle.circuit.specs.declared.Gate.the-variants.{Ccz, Cz, Cnot}
+use Rattle.circuit.proofs.Gate.{the-row as gate-row}
 use Rattle.text.specs.Spelling.{bytes, decimal, signedDecimal, spelledSpot, spelledGate}
 use Rattle.text.proofs.DecimalUnique.{decimal-length}
+use Rattle.writing.proofs.Signed.{distance-bound}
 use Rattle.answers.specs.declared.Answer.{Answer}
 use Rattle.answers.specs.declared.Answer.the-variants.{Ok, Left, Amplitude, Readout, Terms, Listed, Refused}
 use Rattle.answers.specs.Answers.{bytesOf}
-use Rattle.answers.proofs.Signed.{distance-bound}
+use Rattle.answers.proofs.Answer.{the-row}
 
 -- A sign is one byte more.
 pub signed-length : (k : ℕ) (s : ℤ) → natAbs s < 10 ^ k → 1 ≤ k → length (signedDecimal s) ≤ suc k
@@ -28,11 +32,34 @@ spot-length p = rw (length-append (decimal (p .position)) (bytes ")")) (omega ar
 
 -- ---- of numbers as the code holds them
 
-pub decimal-word : (n : ℕ) → Fits w64 n → length (decimal n) ≤ 20
-decimal-word n f = decimal-length 20 n (omega (arith, f .fits)) (omega arith)
+pub decimal-word : (n : ℕ) → n < 2 ^ 64 → length (decimal n) ≤ 20
+decimal-word n h = decimal-length 20 n (omega arith) (omega arith)
 
 pub signed-word : (s : ℤ) → SFits w64 s → length (signedDecimal s) ≤ 20
 signed-word s f = signed-length 19 s (omega (arith, distance-bound s f)) (omega arith)
+
+-- ---- of answers as the code holds them: each number fits its type
+
+gate-within : (g : Gate) (v : List Val) → Is gate-row g v → length (spelledGate g) ≤ 96
+unfolding spelledGate
+gate-within (Ccz i j k) v p =
+    simp length-append (omega (arith, decimal-word i (omega arith), decimal-word j (omega arith), decimal-word k (omega arith)))
+gate-within (Cz p q) v f =
+    simp (length-append, spot-length) (omega (arith, decimal-word (p .position) (omega arith), decimal-word (q .position) (omega arith)))
+gate-within (Cnot C c t) v p = simp length-append (omega (arith, decimal-word c (omega arith), decimal-word t (omega arith)))
+
+-- Every answer has room among the 96 bytes of a text.
+pub answer-within : (a : Answer) (v : List Val) → Is the-row a v → length (bytesOf a) ≤ 96
+unfolding bytesOf
+answer-within Ok v p = omega arith
+answer-within (Left l) v p = simp length-append (omega (arith, decimal-word l (omega arith)))
+answer-within (Amplitude s n) v p =
+    simp length-append (omega (arith, signed-word s (record { sfits = p .1 .1 .1 .1 .0 .1 }), decimal-word n (omega arith)))
+answer-within (Readout t n) v p =
+    simp length-append (omega (arith, decimal-word t (omega arith), decimal-word n (omega arith)))
+answer-within (Terms n) v p = simp length-append (omega (arith, decimal-word n (omega arith)))
+answer-within (Listed g) v p = gate-within g _ (p .1 .1 .1 .1 .0)
+answer-within (Refused e) v p = simp length-append (omega (arith, decimal-word e (omega arith)))
 
 -- ---- of answers as the engine gives them
 

@@ -1,15 +1,22 @@
 // Answer lines, written to the front of a lent buffer.
 ghost use mathlib.Core.Path.{_≡_};
-ghost use mathlib.Core.List.{[], _∷_, _++_};
-ghost use Prim.Native.Nat.{_+_, _≤_, _<_};
-ghost use lib.ListN.{length, take};
-ghost use lib.IntN.{natAbs};
-ghost use Rattle.text.specs.Spelling.{bytes, decimal, signedDecimal, letter, spelledSpot, spelledGate};
+ghost use mathlib.Core.List.{_++_};
+ghost use Prim.Native.Nat.{_≤_};
+ghost use lib.ListN.{take};
+ghost use Rattle.text.specs.Spelling.{bytes, decimal, spelledGate};
+ghost use Rattle.writing.specs.Texts.{textOf};
 ghost use Rattle.answers.specs.Answers.{bytesOf, Written};
-ghost use Rattle.answers.specs.Texts.{joined, textOf};
 use circuit::Colour;
 use circuit::Gate;
 use circuit::Spot;
+use writing::Text;
+use writing::letter_of;
+use writing::push_byte;
+use writing::push_number;
+use writing::push_signed;
+use writing::push_spaced;
+use writing::push_spot;
+use writing::text_of;
 
 pub enum Answer {
     Ok,
@@ -26,127 +33,11 @@ pub enum Answer {
     Refused(u8),
 }
 
-// Room for every answer. The longest has 68 bytes: a `ccz` with three positions of 20 digits.
-const ROOM: usize = 96;
-
-// A line as it is built.
-struct Text {
-    bytes: [u8; ROOM],
-    len: usize,
-}
-
-fn no_text() -> Text
-    ensures { λ r. ⌜ r ≡ textOf [] ⌝ }
-{
-    Text {
-        bytes: [0u8; ROOM],
-        len: 0,
-    }
-}
-
-fn push_byte(text: Text, byte: u8) -> Text
-    requires { ⌜ text .len < 96 ⌝ }
-    ensures { λ r. ⌜ r ≡ joined text (byte ∷ []) ⌝ }
-{
-    let at = text.len;
-    let mut next = text;
-    next.bytes[at] = byte;
-    next.len = at + 1;
-    next
-}
-
-fn push_word(text: Text, word: &[u8]) -> Text
-    requires { ⌜ text .len + length (now word) ≤ 96 ⌝ }
-    ensures { λ r. ⌜ r ≡ joined text (now (word .entry)) ⌝ }
-{
-    let mut next = text;
-    let mut i = 0;
-    while i < word.len() {
-        next = push_byte(next, word[i]);
-        i += 1;
-    }
-    next
-}
-
-// The digits of the tenth first, then the last digit.
-fn push_number(text: Text, n: u64) -> Text
-    requires { ⌜ text .len + length (decimal n) ≤ 96 ⌝ }
-    ensures { λ r. ⌜ r ≡ joined text (decimal n) ⌝ }
-{
-    if n < 10 {
-        return push_byte(text, 48 + n as u8);
-    }
-    let front = push_number(text, n / 10);
-    push_byte(front, 48 + (n % 10) as u8)
-}
-
-// How far a number is from 0. The least i64 has no negative, so 1 is held back.
-fn magnitude(s: i64) -> u64
-    ensures { λ r. ⌜ r ≡ natAbs s ⌝ }
-{
-    if s < 0 {
-        return (-1 - s) as u64 + 1;
-    }
-    s as u64
-}
-
-fn push_signed(text: Text, s: i64) -> Text
-    requires { ⌜ text .len + length (signedDecimal s) ≤ 96 ⌝ }
-    ensures { λ r. ⌜ r ≡ joined text (signedDecimal s) ⌝ }
-{
-    let n = magnitude(s);
-    if s < 0 {
-        let signed = push_byte(text, b'-');
-        return push_number(signed, n);
-    }
-    push_number(text, n)
-}
-
-// A space, and then the number (Manual 4.2).
-fn push_spaced(text: Text, n: u64) -> Text
-    requires { ⌜ text .len + (length (decimal n) + 1) ≤ 96 ⌝ }
-    ensures { λ r. ⌜ r ≡ joined text (bytes " " ++ decimal n) ⌝ }
-{
-    let spaced = push_word(text, b" ");
-    push_number(spaced, n)
-}
-
-fn letter_of(c: Colour) -> u8
-    ensures { λ r. ⌜ r ≡ letter c ⌝ }
-{
-    match c {
-        Colour::Red => b'r',
-        Colour::Blue => b'b',
-        Colour::Green => b'g',
-    }
-}
-
-fn push_spot(text: Text, spot: Spot) -> Text
-    requires { ⌜ text .len + length (spelledSpot spot) ≤ 96 ⌝ }
-    ensures { λ r. ⌜ r ≡ joined text (spelledSpot spot) ⌝ }
-{
-    let colour = spot.colour;
-    let position = spot.position;
-    let bracket = push_word(text, b"(");
-    let lettered = push_byte(bracket, letter_of(colour));
-    let numbered = push_spaced(lettered, position as u64);
-    push_word(numbered, b")")
-}
-
-// A text of one word.
-fn text_of(word: &[u8]) -> Text
-    requires { ⌜ length (now word) ≤ 96 ⌝ }
-    ensures { λ r. ⌜ r ≡ textOf (now (word .entry)) ⌝ }
-{
-    push_word(no_text(), word)
-}
-
 fn number_line(word: &[u8], n: u64) -> Text
-    requires { ⌜ length (now word) ≤ 8 ⌝ }
     ensures { λ r. ⌜ r ≡ textOf (now (word .entry) ++ (decimal n ++ bytes ")")) ⌝ }
 {
     let numbered = push_number(text_of(word), n);
-    push_word(numbered, b")")
+    push_byte(numbered, b')')
 }
 
 fn amplitude_line(s: i64, n: u64) -> Text
@@ -154,7 +45,7 @@ fn amplitude_line(s: i64, n: u64) -> Text
 {
     let signed = push_signed(text_of(b"(amp "), s);
     let whole = push_spaced(signed, n);
-    push_word(whole, b")")
+    push_byte(whole, b')')
 }
 
 fn readout_line(t: u64, n: u64) -> Text
@@ -162,7 +53,7 @@ fn readout_line(t: u64, n: u64) -> Text
 {
     let counted = push_number(text_of(b"(part "), t);
     let whole = push_spaced(counted, n);
-    push_word(whole, b")")
+    push_byte(whole, b')')
 }
 
 fn ccz_line(i: u64, j: u64, k: u64) -> Text
@@ -171,16 +62,16 @@ fn ccz_line(i: u64, j: u64, k: u64) -> Text
     let red = push_number(text_of(b"(ccz "), i);
     let blue = push_spaced(red, j);
     let green = push_spaced(blue, k);
-    push_word(green, b")")
+    push_byte(green, b')')
 }
 
 fn cz_line(p: Spot, q: Spot) -> Text
     ensures { λ r. ⌜ r ≡ textOf (spelledGate (Gate.Cz p q)) ⌝ }
 {
     let one = push_spot(text_of(b"(cz "), p);
-    let spaced = push_word(one, b" ");
+    let spaced = push_byte(one, b' ');
     let two = push_spot(spaced, q);
-    push_word(two, b")")
+    push_byte(two, b')')
 }
 
 fn cnot_line(c: Colour, control: u64, target: u64) -> Text
@@ -189,7 +80,7 @@ fn cnot_line(c: Colour, control: u64, target: u64) -> Text
     let lettered = push_byte(text_of(b"(cnot "), letter_of(c));
     let one = push_spaced(lettered, control);
     let two = push_spaced(one, target);
-    push_word(two, b")")
+    push_byte(two, b')')
 }
 
 fn gate_line(g: Gate) -> Text

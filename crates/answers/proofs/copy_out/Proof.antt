@@ -1,11 +1,10 @@
 -- The loop's invariant: the text's first i bytes stand at the buffer's front, and the rest is as it was. The measure is what is left of
 -- the text.
-use Prim.Native.Nat.{_≤_, _-_}
+use Prim.Native.Nat.{ℕ, _≤_, _-_}
 use native.Mathlib.Omega.{arith}
 use mathlib.Core.Path.{_≡_, refl}
 use mathlib.Core.List.{_++_}
-use lib.ListN.{length, take, drop, length-set}
-use Rattle.answers.proofs.Texts.{inside}
+use lib.ListN.{length, take, drop, length-map, length-set}
 use Rattle.answers.proofs.Buffers.{copied-next, written-whole, written-nothing}
 use borrow.Author.Needs.{needs}
 use Rattle.answers.proofs.copy_out.Statement.{statement}
@@ -20,7 +19,7 @@ abbrev μ-loop : tie.MeasureT-loop
 
 -- The text's own length is within its bytes.
 holds : (c : tie.Start Inv-loop μ-loop) → c .args .text .len ≤ length (c .args .text .bytes)
-holds c = inside (c .args .text) (c .good .0 .1 .1 .0 .1 .0 .1) (c .pre)
+holds c = omega (arith, length-map (c .args .text .bytes) (λ (v : ℕ). v))
 
 returns : tie.Need-returns Inv-loop μ-loop
 returns c =

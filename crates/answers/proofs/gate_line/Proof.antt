@@ -1,7 +1,7 @@
 -- Each kind of gate has its own line.
 use mathlib.Core.Path.{sym, ap, _∙_}
 use Rattle.text.specs.Spelling.{spelledGate}
-use Rattle.answers.specs.Texts.{textOf}
+use Rattle.writing.specs.Texts.{textOf}
 use borrow.Author.Needs.{needs}
 use Rattle.answers.proofs.gate_line.Statement.{statement}
 use Rattle.answers.proofs.gate_line.Tie as tie

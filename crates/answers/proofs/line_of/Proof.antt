@@ -4,7 +4,7 @@ use mir.Facts.{toZ-ofZ}
 use mir.Syntax.{w64}
 use mir.Val.{SFits}
 use Rattle.answers.specs.Answers.{bytesOf}
-use Rattle.answers.specs.Texts.{textOf}
+use Rattle.writing.specs.Texts.{textOf}
 use borrow.Author.Needs.{needs}
 use Rattle.answers.proofs.line_of.Statement.{statement}
 use Rattle.answers.proofs.line_of.Tie as tie

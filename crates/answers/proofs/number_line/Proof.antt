@@ -1,53 +1,29 @@
--- A word, a number of at most 20 digits, and the bracket.
-use Prim.Native.Nat.{_≤_}
-use native.Mathlib.Omega.{arith}
-use mathlib.Core.Path.{ap, _∙_}
-use mathlib.Core.List.{_++_, append-assoc}
-use Rattle.text.specs.Spelling.{bytes, decimal}
-use Rattle.answers.specs.Texts.{textOf}
-use Rattle.answers.proofs.Texts.{text-then, text-len, joined-len}
-use Rattle.answers.proofs.Lengths.{decimal-word}
+-- A word, a number and the bracket.
+use mathlib.Core.List.{append-assoc}
 use borrow.Author.Needs.{needs}
+use Rattle.writing.proofs.Texts.{text-joined}
 use Rattle.answers.proofs.number_line.Statement.{statement}
 use Rattle.answers.proofs.number_line.Tie as tie
 
-numbered : (c : tie.After-push-number) → c .push-number .result .len ≤ 28
-numbered c =
-    omega (
-      arith,
-      joined-len _ _ (c .push-number .ensures),
-      text-len _ (c .before .text-of .ensures),
-      decimal-word (c .before .before .before .args .n) (c .before .before .before .fits .n),
-      c .before .before .before .pre,
-    )
-
 text-of-requires : tie.Need-text-of-requires
-text-of-requires c κs = omega (arith, c .before .pre)
+text-of-requires c κs = search needs
 
 push-number-requires : tie.Need-push-number-requires
-push-number-requires c κs =
-    omega (arith, text-len _ (c .text-of .ensures), decimal-word (c .before .before .args .n) (c .before .before .fits .n), c .before .before .pre)
+push-number-requires c κs = search needs
 
-slice-aggregate-push-word : tie.Need-slice-aggregate-push-word
-slice-aggregate-push-word c = search needs
-
-push-word-requires : tie.Need-push-word-requires
-push-word-requires c κs = omega (arith, numbered (c .before))
+push-byte-requires : tie.Need-push-byte-requires
+push-byte-requires c κs = search needs
 
 returns : tie.Need-returns
 returns c =
-    let a = c .before .before .before .before .before .args in
-    text-then (a .word .now ++ decimal (a .n)) (bytes ")")
-    (text-then (a .word .now) (decimal (a .n)) (c .before .before .before .text-of .ensures) (c .before .before .push-number .ensures))
-    (c .push-word .ensures)
-    ∙ ap textOf (simp append-assoc)
+    simp (
+      c .push-byte .ensures,
+      c .before .push-number .ensures,
+      c .before .before .text-of .ensures,
+      text-joined,
+      append-assoc,
+    )
 
 pub number-line-spec : {M : Type 1} → statement M
 number-line-spec =
-    tie.close
-    (tie.spec
-    text-of-requires
-    push-number-requires
-    slice-aggregate-push-word
-    push-word-requires
-    returns)
+    tie.close (tie.spec text-of-requires push-number-requires push-byte-requires returns)

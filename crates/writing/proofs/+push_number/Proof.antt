@@ -1,22 +1,17 @@
 -- The digits of a number are those of its tenth and the last one. The measure is the number.
-use mathlib.Core.Path.{sym, ap, _∙_}
 use native.Mathlib.Omega.{arith}
 use Rattle.text.proofs.Decimal.{decimal-one, decimal-more, tenth-less}
-use Rattle.text.proofs.DecimalUnique.{decimal-some, decimal-length-more}
-use Rattle.answers.specs.Texts.{joined}
-use Rattle.answers.proofs.Texts.{inside, joined-then, joined-len}
+use Rattle.writing.proofs.Texts.{joined-joined}
 use borrow.Author.Needs.{needs}
-use Prim.Native.Nat.{ℕ, _+_, _/_, _%_, _<_}
-use mathlib.Core.List.{[], _∷_}
-use Rattle.text.specs.Spelling.{decimal}
+use Prim.Native.Nat.{ℕ, _<_}
 use borrow.Fn.Kinds.{In}
 use borrow.Fn.PlainCycle.{Measures, is, falls, and}
-use Rattle.answers.proofs.push_number.Reads as push-number
-use Rattle.answers.proofs.push_number.Kinds as push-number-kinds
-use Rattle.answers.proofs.+push_number.Lts-push_number as push-number-lts
-use Rattle.answers.proofs.push_byte.Reads as push-byte-reads
-use Rattle.answers.proofs.+push_number.{statement}
-use Rattle.answers.proofs.+push_number.Tie.{close}
+use Rattle.writing.proofs.push_number.Reads as push-number
+use Rattle.writing.proofs.push_number.Kinds as push-number-kinds
+use Rattle.writing.proofs.+push_number.Lts-push_number as push-number-lts
+use Rattle.writing.proofs.push_byte.Reads as push-byte-reads
+use Rattle.writing.proofs.+push_number.{statement}
+use Rattle.writing.proofs.+push_number.Tie.{close}
 
 abbrev μ-push-number : Measures 0 push-number-kinds.ps ℕ
 μ-push-number κs a = a .1 .0
@@ -51,7 +46,7 @@ push-number-push-byte-requires : (t : ℕ) → push-number-lts.Need-push-byte-re
   push-number-below t,
   push-number.Post,
 ) (push-number-at t) push-number.Post
-push-number-push-byte-requires t c κs = omega (arith, decimal-some (c .before .args .n))
+push-number-push-byte-requires t c κs = search needs
 
 push-number-returns : (t : ℕ) → push-number-lts.Need-returns (
   push-byte-reads.Asked,
@@ -59,7 +54,7 @@ push-number-returns : (t : ℕ) → push-number-lts.Need-returns (
   push-number-below t,
   push-number.Post,
 ) (push-number-at t) push-number.Post
-push-number-returns t c = c .push-byte .ensures ∙ ap (joined _) (sym (decimal-one _ (c .before .if1 .taken)))
+push-number-returns t c = simp (c .push-byte .ensures, decimal-one (c .before .before .args .n) (omega arith))
 
 push-number-push-number-requires : (t : ℕ) → push-number-lts.Need-push-number-requires (
   push-byte-reads.Asked,
@@ -67,10 +62,7 @@ push-number-push-number-requires : (t : ℕ) → push-number-lts.Need-push-numbe
   push-number-below t,
   push-number.Post,
 ) (push-number-at t) push-number.Post
-push-number-push-number-requires t c κs = (
-  omega (arith, tenth-less (c .before .args .n) (c .if1 .left)),
-  omega (arith, decimal-length-more (c .before .args .n) (c .if1 .left)),
-)
+push-number-push-number-requires t c κs = (omega (arith, tenth-less (c .before .args .n) (omega arith)), tt)
 
 push-number-cast-push-byte-2 : (t : ℕ) → push-number-lts.Need-cast-push-byte-2 (
   push-byte-reads.Asked,
@@ -94,8 +86,7 @@ push-number-push-byte-requires-2 : (t : ℕ) → push-number-lts.Need-push-byte-
   push-number-below t,
   push-number.Post,
 ) (push-number-at t) push-number.Post
-push-number-push-byte-requires-2 t c κs =
-    omega (arith, joined-len _ _ (c .push-number .ensures), decimal-length-more (c .before .before .args .n) (c .before .if1 .left))
+push-number-push-byte-requires-2 t c κs = search needs
 
 push-number-returns-2 : (t : ℕ) → push-number-lts.Need-returns-2 (
   push-byte-reads.Asked,
@@ -104,13 +95,12 @@ push-number-returns-2 : (t : ℕ) → push-number-lts.Need-returns-2 (
   push-number.Post,
 ) (push-number-at t) push-number.Post
 push-number-returns-2 t c =
-    let a = c .before .before .before in
-    let n = a .args .n in
-    joined-then (a .args .text) (decimal (n / 10)) ((48 + n % 10) ∷ [])
-    (inside (a .args .text) (a .good .0 .1 .1 .0 .1 .0 .1) (omega (arith, a .pre .1)))
-    (c .before .push-number .ensures)
-    (c .push-byte2 .ensures)
-    ∙ ap (joined _) (sym (decimal-more n (c .before .before .if1 .left)))
+    simp (
+      c .push-byte2 .ensures,
+      c .before .push-number .ensures,
+      joined-joined,
+      decimal-more (c .before .before .before .args .n) (omega arith),
+    )
 
 pub +push-number-spec : {M : Type 1} → statement M
 +push-number-spec = close μ-push-number λ t. push-number-lts.spec (

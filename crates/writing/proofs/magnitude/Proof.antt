@@ -8,10 +8,10 @@ use lib.Signed.{ltZ}
 use mir.Facts.{toZ-ofZ}
 use mir.Syntax.{w64}
 use mir.Val.{toZ, ofZ}
-use Rattle.answers.proofs.Signed.{distance-bound, negative-distance, not-negative, minus-one-less-fits, minus-one-less-held}
+use Rattle.writing.proofs.Signed.{distance-bound, negative-distance, not-negative, minus-one-less-fits, minus-one-less-held}
 use borrow.Author.Needs.{needs}
-use Rattle.answers.proofs.magnitude.Statement.{statement}
-use Rattle.answers.proofs.magnitude.Tie as tie
+use Rattle.writing.proofs.magnitude.Statement.{statement}
+use Rattle.writing.proofs.magnitude.Tie as tie
 
 negative : (c : tie.Then1) → ltZ (c .before .args .s) (pos 0) ≡ true
 negative c = rw (toZ-ofZ (c .before .fits .s)) at (c .if1 .taken)
