@@ -18,11 +18,12 @@ use Rattle.framing.proofs.LinesCut.{first-line, no-line-yet}
 use Rattle.saying.specs.declared.Session.{Session}
 use Rattle.session.specs.declared.Reading.{Reading}
 use Rattle.transcript.specs.Session.{asText, Progress, begun, answerTo, withResponse, withLine, withLines, sessionOf}
-use Rattle.saying.specs.Saying.{saidTo, saidToAll, buffered, allSaidInto}
+use Rattle.output.specs.Output.{buffered, allSaidInto}
+use Rattle.saying.specs.Saying.{saidTo, saidToAll}
 use Rattle.saying.specs.Standing.{At}
 use Rattle.session.specs.Program.{Follows}
 use Rattle.session.specs.Turns.{FollowsOn}
-use Rattle.saying.proofs.WhatWaits.{into-append}
+use Rattle.output.proofs.WhatWaits.{into-append}
 
 -- ---- lines in turn
 

@@ -11,15 +11,15 @@ use borrow.Author.Tests.{eqb-true, eqb-false}
 use Rattle.io.specs.Counts.{Counts, clamped}
 use Rattle.engine.proofs.Keeping.{fresh-held}
 use Rattle.framing.specs.Lines.{linesOf}
-use Rattle.saying.specs.declared.Waiting.{Waiting}
+use Rattle.output.specs.declared.Waiting.{Waiting}
 use Rattle.saying.specs.declared.Session.{Session}
 use Rattle.session.specs.declared.Reading.{Reading}
 use Rattle.transcript.specs.Session.{Progress, begun, withLines, sessionOf}
 use Rattle.session.specs.Turns.{delivered, FollowsOn, LastSaid, Received, Flushed, Turned, firstReading}
 use Rattle.saying.specs.Standing.{At}
 use Rattle.session.specs.Program.{Follows, EachSome, Ran}
-use Rattle.saying.specs.Saying.{buffered}
-use Rattle.saying.proofs.WhatWaits.{waits-nothing}
+use Rattle.output.specs.Output.{buffered}
+use Rattle.output.proofs.WhatWaits.{waits-nothing}
 
 -- ---- what was read
 

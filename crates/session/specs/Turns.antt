@@ -9,10 +9,11 @@ use Rattle.io.specs.Counts.{clamped}
 use Rattle.engine.specs.Engine.{freshEngine}
 use Rattle.engine.specs.Calls.{encode}
 use Rattle.framing.specs.Framing.{pendingOf}
-use Rattle.saying.specs.declared.Waiting.{Waiting}
+use Rattle.output.specs.declared.Waiting.{Waiting}
 use Rattle.session.specs.declared.Reading.{Reading}
 use Rattle.transcript.specs.Session.{begun, withLines, sessionOf}
-use Rattle.saying.specs.Saying.{saidTo, saidToAll, Buffer, buffered, allSaidInto}
+use Rattle.output.specs.Output.{Buffer, buffered, allSaidInto}
+use Rattle.saying.specs.Saying.{saidTo, saidToAll}
 use Rattle.saying.specs.Standing.{At}
 use Rattle.session.specs.Program.{Follows, mostReads}
 

@@ -6,13 +6,13 @@ ghost use mathlib.Core.Path.{_≡_};
 ghost use Prim.Native.Nat.{ℕ, _+_, _≤_};
 ghost use lib.ListN.{length, replicate};
 ghost use Rattle.transcript.specs.Session.{sessionOf};
+ghost use Rattle.output.specs.Output.{FailureKept, buffered};
 ghost use Rattle.saying.specs.Standing.{At};
-ghost use Rattle.saying.specs.Saying.{FailureKept, buffered};
 ghost use Rattle.session.specs.Turns.{FollowsOn, LastSaid, Received, Flushed, Turned, firstReading};
 ghost use Rattle.session.specs.Program.{Follows, Ran};
 use framing::Pending;
+use output::Waiting;
 use saying::Session;
-use saying::Waiting;
 
 // A session, the line that it is reading, whether there is more to read, and how many more reads may deliver something. A proved loop has to
 // end, and nothing says that the input does: they are counted down from a number that no run uses up.
@@ -128,7 +128,7 @@ fn turn(reading: Reading, history: &mut [u32], out: &mut [u8], chunk: &mut [u8])
     let read = streams::read(chunk);
     let taken = take_read(reading, history, out, chunk, read.last.got);
     let waiting = taken.session.waiting;
-    let flushed = saying::flush(out, waiting);
+    let flushed = output::flush(out, waiting);
     after_flush(taken, flushed)
 }
 
@@ -139,7 +139,7 @@ fn begin() -> Reading
     Reading {
         session: Session {
             state: engine::fresh(),
-            waiting: saying::emptied(true),
+            waiting: output::emptied(true),
         },
         pending: framing::empty(),
         more: true,

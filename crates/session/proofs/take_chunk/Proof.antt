@@ -6,7 +6,7 @@ use native.Mathlib.Omega.{arith}
 use lib.ListN.{length}
 use borrow.Author.Tests.{not-true, not-false}
 use Rattle.framing.proofs.Scans.{scan-goes-on}
-use Rattle.saying.specs.Saying.{FailureKept}
+use Rattle.output.specs.Output.{FailureKept}
 use Rattle.session.proofs.ChunkTaken.{Amid, AmidOn, chunk-begun, on-begun, on-line, chunk-followed}
 use borrow.Author.Needs.{needs}
 use Rattle.session.proofs.take_chunk.Statement.{statement}

@@ -1,6 +1,6 @@
 -- What the read answered is taken, and what the write answered is heeded.
 use mathlib.Core.Path.{ap, _∙_}
-use Rattle.saying.specs.declared.Waiting.{Waiting}
+use Rattle.output.specs.declared.Waiting.{Waiting}
 use Rattle.session.proofs.TurnsTaken.{turn-taken}
 use borrow.Author.Needs.{needs}
 use Rattle.session.proofs.turn.Statement.{statement}

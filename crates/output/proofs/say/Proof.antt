@@ -1,8 +1,8 @@
 -- The line waits behind what waited, or alone, once that is written.
-use Rattle.saying.proofs.WhatWaits.{line-waits, first-waits, line-into, first-into}
+use Rattle.output.proofs.WhatWaits.{line-waits, first-waits, line-into, first-into}
 use borrow.Author.Needs.{needs}
-use Rattle.saying.proofs.say.Statement.{statement}
-use Rattle.saying.proofs.say.Tie as tie
+use Rattle.output.proofs.say.Statement.{statement}
+use Rattle.output.proofs.say.Tie as tie
 
 put-line-requires : tie.Need-put-line-requires
 put-line-requires c κs = search needs

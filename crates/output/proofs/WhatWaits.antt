@@ -9,10 +9,8 @@ use lib.Seq.{take-paste, length-paste, take-length}
 use borrow.Author.Tests.{ltb-true, lt-ltb}
 use Rattle.framing.specs.Framing.{fitting, placed, lineFits, LinePut}
 use Rattle.framing.proofs.Places.{fits-whole}
-use Rattle.saying.specs.declared.Waiting.{Waiting}
-use Rattle.transcript.specs.Session.{asText}
-use Rattle.saying.specs.Standing.{Waits}
-use Rattle.saying.specs.Saying.{Buffer, saidInto, allSaidInto}
+use Rattle.output.specs.declared.Waiting.{Waiting}
+use Rattle.output.specs.Output.{Waits, Buffer, saidInto, allSaidInto}
 
 -- Nothing waits once it is written.
 pub waits-nothing : {said out : List ℕ} {w : Waiting} (v : Waiting) → Waits said out w → v .len ≡ 0 → Waits said out v
@@ -20,8 +18,8 @@ waits-nothing {said = said} v w z = record { written = said; fits = omega (arith
 
 module _ {said out : List ℕ} {w : Waiting} (h : Waits said out w) (line : List ℕ) where
   placed-waits : {b : Bool} → w .len + (length line + 1) ≤ length out
-      → Waits (said ++ asText (line ∷ [])) (placed out (w .len) (line ++ (10 ∷ []))) (record { len = w .len + (length line + 1); sound = b })
-  unfolding placed asText
+      → Waits (said ++ (line ++ (10 ∷ []))) (placed out (w .len) (line ++ (10 ∷ []))) (record { len = w .len + (length line + 1); sound = b })
+  unfolding placed
   placed-waits room =
       let part : List ℕ = line ++ (10 ∷ []) in
       let size : length part ≡ length line + 1 = length-append line (10 ∷ []) in
@@ -37,19 +35,19 @@ module _ {said out : List ℕ} {w : Waiting} (h : Waits said out w) (line : List
 
   module _ {out' : List ℕ} {place : ℕ} (p : LinePut out (w .len) line place out') {b : Bool} where
     -- A line that fits waits behind what waited.
-    pub fitting-waits : length line < length out - w .len → Waits (said ++ asText (line ∷ [])) out' (record { len = place; sound = b })
+    pub fitting-waits : length line < length out - w .len → Waits (said ++ (line ++ (10 ∷ []))) out' (record { len = place; sound = b })
     unfolding lineFits
     fitting-waits less =
         let fits = lt-ltb (length line) (length out - w .len) less in
         rw (rw fits at (p .stands), rw fits at (p .counted)) (placed-waits (omega arith))
 
-    put-by : (t : Bool) → lineFits out (w .len) line ≡ t → w .len < place → Waits (said ++ asText (line ∷ [])) out' (record { len = place; sound = b })
+    put-by : (t : Bool) → lineFits out (w .len) line ≡ t → w .len < place → Waits (said ++ (line ++ (10 ∷ []))) out' (record { len = place; sound = b })
     unfolding lineFits
     put-by true f less = fitting-waits (ltb-true (length line) (length out - w .len) f)
     put-by false f less = absurd (omega (arith, rw f at (p .counted)))
 
     -- The place moved: the line fitted.
-    pub line-waits : w .len < place → Waits (said ++ asText (line ∷ [])) out' (record { len = place; sound = b })
+    pub line-waits : w .len < place → Waits (said ++ (line ++ (10 ∷ []))) out' (record { len = place; sound = b })
     line-waits = put-by (lineFits out (w .len) line) refl
 
   left-by : {out' : List ℕ} {place : ℕ} → LinePut out (w .len) line place out' → (t : Bool) → lineFits out (w .len) line ≡ t → place ≤ w .len → out' ≡ out
@@ -58,7 +56,7 @@ module _ {said out : List ℕ} {w : Waiting} (h : Waits said out w) (line : List
 
 -- The place did not move: there was no room. What waited is written, and the line is the first that waits.
 pub first-waits : {said out out' out'' line : List ℕ} {at first place : ℕ} {w : Waiting} {b : Bool} → Waits said out w → LinePut out (w .len) line at out'
-    → at ≤ w .len → LinePut out' first line place out'' → first ≡ 0 → length line < length out → Waits (said ++ asText (line ∷ [])) out'' (record { len = place; sound = b })
+    → at ≤ w .len → LinePut out' first line place out'' → first ≡ 0 → length line < length out → Waits (said ++ (line ++ (10 ∷ []))) out'' (record { len = place; sound = b })
 first-waits {out = out} {line = line} {w = w} {b = b} h p stays again front less =
     let same = left-by h line p (lineFits out (w .len) line) refl stays in
     fitting-waits (waits-nothing (record { len = 0; sound = b }) h refl) line (rw (same, front) at again) (omega arith)
