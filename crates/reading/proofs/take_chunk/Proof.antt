@@ -7,10 +7,10 @@ use lib.ListN.{length}
 use borrow.Author.Tests.{not-true, not-false}
 use Rattle.framing.proofs.Scans.{scan-goes-on}
 use Rattle.output.specs.Output.{FailureKept}
-use Rattle.session.proofs.ChunkTaken.{Amid, AmidOn, chunk-begun, on-begun, on-line, chunk-followed}
+use Rattle.reading.proofs.ChunkTaken.{Amid, AmidOn, chunk-begun, on-begun, on-line, chunk-followed}
 use borrow.Author.Needs.{needs}
-use Rattle.session.proofs.take_chunk.Statement.{statement}
-use Rattle.session.proofs.take_chunk.Tie as tie
+use Rattle.reading.proofs.take_chunk.Statement.{statement}
+use Rattle.reading.proofs.take_chunk.Tie as tie
 
 abbrev Inv-loop : tie.InvT-loop
 Inv-loop history₀ out₀ chunk left session₀ pending₀ from₀ history out session pending from =
@@ -22,8 +22,8 @@ Inv-loop history₀ out₀ chunk left session₀ pending₀ from₀ history out 
 abbrev μ-loop : tie.MeasureT-loop
 μ-loop history₀ out₀ chunk left session₀ pending₀ from₀ history out session pending from = length chunk - from
 
-sub-left : tie.Need-sub-left Inv-loop μ-loop
-sub-left c = search needs
+one-fewer-requires : tie.Need-one-fewer-requires Inv-loop μ-loop
+one-fewer-requires c κs = search needs
 
 loop-holds : tie.Need-loop-holds Inv-loop μ-loop
 loop-holds c = (refl, refl, λ input a. on-begun _ _ _ _ _ _ _ a, λ failed. failed)
@@ -44,7 +44,7 @@ returns c =
       λ input f.
           chunk-followed input (start .args .chunk .now) (start .args .reading) _ _ f (loop .from) (loop .session) (loop .pending) (loop .history) (loop .out) _
           (c .before .before .before .scan .ensures) (loop .inv .2 input (chunk-begun input (start .args .chunk .now) (start .args .reading) _ _ f)) (not-true _ (c .if1 .taken)),
-      (refl, (omega (arith, start .pre), loop .inv .3)),
+      (refl, (c .before .before .before .before .before .before .before .one-fewer .ensures, loop .inv .3)),
     )
 
 take-pending-requires : tie.Need-take-pending-requires Inv-loop μ-loop
@@ -79,7 +79,7 @@ take-chunk-spec =
     (tie.spec
     Inv-loop
     μ-loop
-    sub-left
+    one-fewer-requires
     loop-holds
     scan-requires
     same-length

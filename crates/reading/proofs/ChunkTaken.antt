@@ -16,13 +16,13 @@ use Rattle.framing.specs.Framing.{upToFeed, hasFeed, pendingOf, scanned}
 use Rattle.framing.proofs.Clipped.{pending-joined}
 use Rattle.framing.proofs.LinesCut.{first-line, no-line-yet}
 use Rattle.saying.specs.declared.Session.{Session}
-use Rattle.session.specs.declared.Reading.{Reading}
+use Rattle.reading.specs.declared.Reading.{Reading}
 use Rattle.transcript.specs.Session.{asText, Progress, begun, answerTo, withResponse, withLine, withLines, sessionOf}
 use Rattle.output.specs.Output.{buffered, allSaidInto}
 use Rattle.saying.specs.Saying.{saidTo, saidToAll}
 use Rattle.saying.specs.Standing.{At}
-use Rattle.session.specs.Program.{Follows}
-use Rattle.session.specs.Turns.{FollowsOn}
+use Rattle.reading.specs.Following.{Follows}
+use Rattle.reading.specs.Turns.{FollowsOn}
 use Rattle.output.proofs.WhatWaits.{into-append}
 
 -- ---- lines in turn

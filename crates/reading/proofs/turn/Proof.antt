@@ -1,10 +1,10 @@
 -- What the read answered is taken, and what the write answered is heeded.
 use mathlib.Core.Path.{ap, _∙_}
 use Rattle.output.specs.declared.Waiting.{Waiting}
-use Rattle.session.proofs.TurnsTaken.{turn-taken}
+use Rattle.reading.proofs.ReadTaken.{turn-taken}
 use borrow.Author.Needs.{needs}
-use Rattle.session.proofs.turn.Statement.{statement}
-use Rattle.session.proofs.turn.Tie as tie
+use Rattle.reading.proofs.turn.Statement.{statement}
+use Rattle.reading.proofs.turn.Tie as tie
 
 read-requires : tie.Need-read-requires
 read-requires c κs = search needs

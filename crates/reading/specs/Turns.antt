@@ -2,7 +2,7 @@
 use mathlib.Core.Bool.{true, false, _&&_}
 use mathlib.Core.List.{List, [], _++_}
 use mathlib.Core.Path.{_≡_}
-use Prim.Native.Nat.{ℕ, _+_, _≤_}
+use Prim.Native.Nat.{ℕ, _-_, _≤_}
 use lib.IntN.{ℤ}
 use lib.ListN.{length, take}
 use Rattle.io.specs.Counts.{clamped}
@@ -10,12 +10,12 @@ use Rattle.engine.specs.Engine.{freshEngine}
 use Rattle.engine.specs.Calls.{encode}
 use Rattle.framing.specs.Framing.{pendingOf}
 use Rattle.output.specs.declared.Waiting.{Waiting}
-use Rattle.session.specs.declared.Reading.{Reading}
+use Rattle.reading.specs.declared.Reading.{Reading}
 use Rattle.transcript.specs.Session.{begun, withLines, sessionOf}
 use Rattle.output.specs.Output.{Buffer, buffered, allSaidInto}
 use Rattle.saying.specs.Saying.{saidTo, saidToAll}
 use Rattle.saying.specs.Standing.{At}
-use Rattle.session.specs.Program.{Follows, mostReads}
+use Rattle.reading.specs.Following.{Follows, mostReads}
 
 -- Before the first turn: a fresh engine, nothing read, nothing said.
 unfoldable pub firstReading : Reading
@@ -51,7 +51,7 @@ pub record Received (input : List ℕ) (r : Reading) (h₀ out₀ : List ℕ) (f
       → (r' .more ≡ false) × (r' .left ≡ r .left) × At (sessionOf input) (r' .session) history out
       × LastSaid input r h₀ out₀ f (buffered out (r' .session .waiting))
   pub goes : 1 ≤ length (delivered got chunk)
-      → (r' .more ≡ true) × (r' .left + 1 ≡ r .left)
+      → (r' .more ≡ true) × (r' .left ≡ r .left - 1)
       × FollowsOn input r h₀ out₀ f (delivered got chunk) r' history out (buffered out (r' .session .waiting))
 
 -- What is made of a flush, which leaves `w`: the session goes on only if the write went through.
@@ -73,5 +73,5 @@ pub record Turned (input : List ℕ) (r : Reading) (h₀ out₀ : List ℕ) (f :
       → (r' .more ≡ false) × (r' .left ≡ r .left) × At (sessionOf input) (r' .session) history out
       × LastSaid input r h₀ out₀ f (record { bytes = out; len = waited })
   pub goes : 1 ≤ length (delivered got chunk)
-      → (r' .session .waiting .sound ≡ true → r' .more ≡ true) × (r' .left + 1 ≡ r .left)
+      → (r' .session .waiting .sound ≡ true → r' .more ≡ true) × (r' .left ≡ r .left - 1)
       × FollowsOn input r h₀ out₀ f (delivered got chunk) r' history out (record { bytes = out; len = waited })

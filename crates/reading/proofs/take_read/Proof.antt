@@ -5,10 +5,10 @@ use lib.IntN.{ℤ}
 use lib.ListN.{length}
 use mir.Facts.{toZ-ofZ}
 use Rattle.io.specs.Counts.{clamped}
-use Rattle.session.proofs.TurnsTaken.{read-ended, read-taken}
+use Rattle.reading.proofs.ReadTaken.{read-ended, read-taken}
 use borrow.Author.Needs.{needs}
-use Rattle.session.proofs.take_read.Statement.{statement}
-use Rattle.session.proofs.take_read.Tie as tie
+use Rattle.reading.proofs.take_read.Statement.{statement}
+use Rattle.reading.proofs.take_read.Tie as tie
 
 count-requires : tie.Need-count-requires
 count-requires c κs = search needs

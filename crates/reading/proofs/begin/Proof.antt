@@ -1,9 +1,9 @@
 -- The engine is fresh, and no line is begun.
 use mathlib.Core.Path.{refl}
-use Rattle.session.specs.Turns.{firstReading}
+use Rattle.reading.specs.Turns.{firstReading}
 use borrow.Author.Needs.{needs}
-use Rattle.session.proofs.begin.Statement.{statement}
-use Rattle.session.proofs.begin.Tie as tie
+use Rattle.reading.proofs.begin.Statement.{statement}
+use Rattle.reading.proofs.begin.Tie as tie
 
 fresh-requires : tie.Need-fresh-requires
 fresh-requires c κs = search needs

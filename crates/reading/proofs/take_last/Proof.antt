@@ -1,9 +1,9 @@
 -- The line that was begun is the last of the input's lines, unless it has no bytes.
 use mathlib.Core.Path.{refl}
-use Rattle.session.proofs.ChunkTaken.{input-ended}
+use Rattle.reading.proofs.ChunkTaken.{input-ended}
 use borrow.Author.Needs.{needs}
-use Rattle.session.proofs.take_last.Statement.{statement}
-use Rattle.session.proofs.take_last.Tie as tie
+use Rattle.reading.proofs.take_last.Statement.{statement}
+use Rattle.reading.proofs.take_last.Tie as tie
 
 take-pending-requires : tie.Need-take-pending-requires
 take-pending-requires c κs = search needs

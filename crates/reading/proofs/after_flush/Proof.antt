@@ -1,7 +1,7 @@
 -- Field by field as it is written; where there was more to read, that is left to the write.
 use mathlib.Core.Path.{refl}
-use Rattle.session.proofs.after_flush.Statement.{statement}
-use Rattle.session.proofs.after_flush.Tie as tie
+use Rattle.reading.proofs.after_flush.Statement.{statement}
+use Rattle.reading.proofs.after_flush.Tie as tie
 
 returns : tie.Need-returns
 returns c = record { state = refl; waiting = refl; pending = refl; more = rw (c .if1 .taken) refl; left = refl }
