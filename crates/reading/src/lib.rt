@@ -37,7 +37,7 @@ pub fn begin() -> Reading
     }
 }
 
-// One read fewer is left.
+// One read fewer is left; of none, none.
 fn one_fewer(left: u64) -> u64
     ensures { λ r. ⌜ r ≡ left - 1 ⌝ }
 {
