@@ -10,7 +10,8 @@ use borrow.Author.Tests.{ltb-true, lt-ltb}
 use Rattle.framing.specs.Framing.{fitting, placed, lineFits, LinePut}
 use Rattle.framing.proofs.Places.{fits-whole}
 use Rattle.output.specs.declared.Waiting.{Waiting}
-use Rattle.output.specs.Output.{Waits, Buffer, saidInto, allSaidInto}
+use Rattle.output.specs.Waits.{Waits}
+use Rattle.output.specs.Output.{Buffer, saidInto, allSaidInto}
 
 -- Nothing waits once it is written.
 pub waits-nothing : {said out : List ℕ} {w : Waiting} (v : Waiting) → Waits said out w → v .len ≡ 0 → Waits said out v

@@ -1,18 +1,11 @@
--- The output buffer: what waits in it of what was said, and how a line that is said stands in it.
+-- How a line that is said stands in the output buffer: what the program's functions promise each other.
 use mathlib.Core.Bool.{false, cond}
 use mathlib.Core.List.{List, [], _∷_, _++_}
 use mathlib.Core.Path.{_≡_}
-use Prim.Native.Nat.{ℕ, _+_, _≤_}
-use lib.ListN.{length, take}
+use Prim.Native.Nat.{ℕ, _+_}
+use lib.ListN.{length}
 use Rattle.framing.specs.Framing.{placed, lineFits}
 use Rattle.output.specs.declared.Waiting.{Waiting}
-
--- What waits in the output buffer is the end of what was said. That the part before it was written is not said here: a buffer in which nothing
--- waits fits any text. What is put into the buffer is an equation, `allSaidInto`; in the code only `flush` empties it, and `flush` writes.
-pub record Waits (said out : List ℕ) (w : Waiting) : Type 0 where
-  pub written : List ℕ
-  pub fits : w .len ≤ length out
-  pub is : written ++ take (w .len) out ≡ said
 
 -- A write that failed is not forgotten.
 abbrev pub FailureKept : Waiting → Waiting → Type 0

@@ -3,7 +3,8 @@ ghost use mathlib.Core.List.{List, [], _∷_, _++_};
 ghost use mathlib.Core.Path.{_≡_};
 ghost use Prim.Native.Nat.{ℕ, _<_};
 ghost use lib.ListN.{length};
-ghost use Rattle.output.specs.Output.{Waits, FailureKept, buffered, saidInto};
+ghost use Rattle.output.specs.Waits.{Waits};
+ghost use Rattle.output.specs.Output.{FailureKept, buffered, saidInto};
 
 // Answers that wait in the output buffer: how many bytes, and whether every write so far went through.
 pub struct Waiting {

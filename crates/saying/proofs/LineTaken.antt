@@ -15,7 +15,8 @@ use Rattle.engine.proofs.States.{listed-held}
 use Rattle.output.specs.declared.Waiting.{Waiting}
 use Rattle.saying.specs.declared.Session.{Session}
 use Rattle.transcript.specs.Session.{asText, laterLines, Progress, answerTo, withResponse, withLine}
-use Rattle.output.specs.Output.{Waits, buffered, allSaidInto}
+use Rattle.output.specs.Waits.{Waits}
+use Rattle.output.specs.Output.{buffered, allSaidInto}
 use Rattle.saying.specs.Saying.{saidTo}
 use Rattle.saying.specs.Standing.{At}
 use Rattle.transcript.proofs.Texts.{asText-append}

@@ -15,7 +15,8 @@ use Rattle.engine.specs.Calls.{Holds, fetchedBytes, FetchAnswered}
 use Rattle.engine.proofs.Outcomes.{bytes-fetched}
 use Rattle.output.specs.declared.Waiting.{Waiting}
 use Rattle.transcript.specs.Session.{asText, laterLines}
-use Rattle.output.specs.Output.{Waits, buffered, saidInto, allSaidInto}
+use Rattle.output.specs.Waits.{Waits}
+use Rattle.output.specs.Output.{buffered, saidInto, allSaidInto}
 use Rattle.transcript.proofs.Texts.{asText-append}
 use Rattle.output.proofs.WhatWaits.{into-append}
 use Rattle.transcript.proofs.LaterLines.{line-fetched, later-some}

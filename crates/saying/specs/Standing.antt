@@ -4,7 +4,7 @@ use mathlib.Core.Path.{_≡_}
 use Prim.Native.Nat.{ℕ}
 use lib.ListN.{length}
 use Rattle.engine.specs.Calls.{Holds}
-use Rattle.output.specs.Output.{Waits}
+use Rattle.output.specs.Waits.{Waits}
 use Rattle.transcript.specs.Session.{Progress}
 use Rattle.saying.specs.declared.Session.{Session}
 
