@@ -12,13 +12,15 @@ use Rattle.engine.specs.Calls.{Holds, Response, skipped, response, Given, Answe
 use Rattle.engine.proofs.Keeping.{held-on}
 use Rattle.engine.proofs.Outcomes.{bytes-given}
 use Rattle.engine.proofs.States.{listed-held}
-use Rattle.saying.specs.declared.Waiting.{Waiting}
+use Rattle.output.specs.declared.Waiting.{Waiting}
 use Rattle.saying.specs.declared.Session.{Session}
 use Rattle.transcript.specs.Session.{asText, laterLines, Progress, answerTo, withResponse, withLine}
-use Rattle.saying.specs.Saying.{saidTo, buffered, allSaidInto}
-use Rattle.saying.specs.Standing.{Waits, At}
+use Rattle.output.specs.Waits.{Waits}
+use Rattle.output.specs.Output.{buffered, allSaidInto}
+use Rattle.saying.specs.Saying.{saidTo}
+use Rattle.saying.specs.Standing.{At}
 use Rattle.transcript.proofs.Texts.{asText-append}
-use Rattle.saying.proofs.WhatWaits.{into-append}
+use Rattle.output.proofs.WhatWaits.{into-append}
 use Rattle.transcript.proofs.AnswerBytes.{unanswered, has-bytes}
 use Rattle.saying.proofs.ListingSaid.{SaidThere, PutThere}
 
@@ -67,6 +69,7 @@ module _ (p : Progress) (s : Session) (history out line : List ℕ) (at : At p s
 
   module _ (some : r .len ≡ 0 → ⊥) {out₁ : List ℕ} {w₁ : Waiting} {shown : List ℕ} (put : SaidThere out (s .waiting) shown out₁ w₁) (into : PutThere out (s .waiting) shown out₁ w₁) (is : shown ≡ take (r .len) answer') where
     said-first : Waits (p .said ++ asText (after .bytes ∷ [])) out₁ w₁
+    unfolding asText
     said-first =
         let short : length shown < length out = omega (arith, ap length is ∙ length-take (r .len) answer', at .size) in
         rw (is, bytes-after) at (put (p .said) short (at .waits))

@@ -13,17 +13,17 @@ use Rattle.engine.specs.declared.Fetched.{Fetched}
 use Rattle.engine.specs.Engine.{Engine}
 use Rattle.engine.specs.Calls.{Holds, fetchedBytes, FetchAnswered}
 use Rattle.engine.proofs.Outcomes.{bytes-fetched}
-use Rattle.saying.specs.declared.Waiting.{Waiting}
+use Rattle.output.specs.declared.Waiting.{Waiting}
 use Rattle.transcript.specs.Session.{asText, laterLines}
-use Rattle.saying.specs.Standing.{Waits}
-use Rattle.saying.specs.Saying.{buffered, saidInto, allSaidInto}
+use Rattle.output.specs.Waits.{Waits}
+use Rattle.output.specs.Output.{buffered, saidInto, allSaidInto}
 use Rattle.transcript.proofs.Texts.{asText-append}
-use Rattle.saying.proofs.WhatWaits.{into-append}
+use Rattle.output.proofs.WhatWaits.{into-append}
 use Rattle.transcript.proofs.LaterLines.{line-fetched, later-some}
 
 -- What `say` promises.
 abbrev pub SaidThere : List ℕ → Waiting → List ℕ → List ℕ → Waiting → Type 0
-SaidThere out w line out' w' = (said : List ℕ) → length line < length out → Waits said out w → Waits (said ++ asText (line ∷ [])) out' w'
+SaidThere out w line out' w' = (said : List ℕ) → length line < length out → Waits said out w → Waits (said ++ (line ++ (10 ∷ []))) out' w'
 
 abbrev pub PutThere : List ℕ → Waiting → List ℕ → List ℕ → Waiting → Type 0
 PutThere out w line out' w' = length line < length out → buffered out' w' ≡ saidInto (buffered out w) line
@@ -77,13 +77,14 @@ module _ (s : State) (out₀ : List ℕ) (w₀ : Waiting) where
       (is : number ≡ suc n) (got : FetchAnswered s number answer f answer') (size : length answer ≡ 64) (size' : length answer' ≡ 64) (same : length out ≡ length out₀)
       (shown : line ≡ take (f .len) answer') (put : SaidThere out w line out' w') (into : PutThere out w line out' w') where
     pub one-listed : (f .len ≡ 0 → ⊥) → Listed s out₀ w₀ number out' w'
+    unfolding asText
     one-listed some e h said held big waits =
         let given = got e h held in
         let there = ap₂ (fetchedBytes e) is size ∙ line-fetched e n in
         let bytes : line ≡ getD (laterLines e) n [] = shown ∙ bytes-fetched e number answer f answer' given ∙ there in
         let less = one-left e n (λ z. some (given .len ∙ ap length there ∙ z)) in
         let short : length line < length out = omega (arith, ap length shown ∙ length-take (f .len) answer') in
-        rw (is, take-suc (laterLines e) n [] less, asText-append (take n (laterLines e)) (getD (laterLines e) n [] ∷ []), ← bytes, ← append-assoc said (asText (take n (laterLines e))) (asText (line ∷ [])))
+        rw (is, take-suc (laterLines e) n [] less, asText-append (take n (laterLines e)) (getD (laterLines e) n [] ∷ []), ← bytes, ← append-assoc said (asText (take n (laterLines e))) (line ++ (10 ∷ [])))
         (put (said ++ asText (take n (laterLines e))) short (l e h said held big waits))
 
     pub one-into : (f .len ≡ 0 → ⊥) → ListedInto s out₀ w₀ number out' w'

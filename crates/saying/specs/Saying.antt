@@ -1,17 +1,8 @@
--- What is said, line by line, and how it stands in the output buffer: what the program's functions promise each other.
-use mathlib.Core.Bool.{false, cond}
+-- What is said, line by line: what the program's functions promise each other.
 use mathlib.Core.List.{List, [], _∷_, _++_}
-use mathlib.Core.Path.{_≡_}
-use Prim.Native.Nat.{ℕ, _+_}
-use lib.ListN.{length}
+use Prim.Native.Nat.{ℕ}
 use Rattle.engine.specs.Calls.{response}
-use Rattle.framing.specs.Framing.{placed, lineFits}
-use Rattle.saying.specs.declared.Waiting.{Waiting}
 use Rattle.transcript.specs.Session.{Progress, answerTo, withLine}
-
--- A write that failed is not forgotten.
-abbrev pub FailureKept : Waiting → Waiting → Type 0
-FailureKept w w' = w .sound ≡ false → w' .sound ≡ false
 
 -- The lines that are said to a line, and to lines one after the other.
 unfoldable pub saidTo : Progress → List ℕ → List (List ℕ)
@@ -20,23 +11,3 @@ saidTo p line = answerTo line (response (p .engine) (p .history) line 64)
 unfoldable pub saidToAll : Progress → List (List ℕ) → List (List ℕ)
 saidToAll p [] = []
 saidToAll p (l ∷ ls) = saidTo p l ++ saidToAll (withLine p l) ls
-
--- The output buffer: its bytes, and how many of them wait.
-pub record Buffer : Type 0 where
-  pub bytes : List ℕ
-  pub len : ℕ
-
-abbrev pub buffered : List ℕ → Waiting → Buffer
-buffered out w = record { bytes = out; len = w .len }
-
--- A line said: it stands with its line feed behind what waits. Where it has no room there, what waits is written, and the line stands in front.
-unfoldable pub saidInto : Buffer → List ℕ → Buffer
-saidInto b line =
-    cond (lineFits (b .bytes) (b .len) line)
-    (record { bytes = placed (b .bytes) (b .len) (line ++ (10 ∷ [])); len = b .len + (length line + 1) })
-    (record { bytes = placed (b .bytes) 0 (line ++ (10 ∷ [])); len = length line + 1 })
-
--- Lines said one after the other.
-unfoldable pub allSaidInto : Buffer → List (List ℕ) → Buffer
-allSaidInto b [] = b
-allSaidInto b (l ∷ ls) = allSaidInto (saidInto b l) ls

@@ -1,30 +1,15 @@
--- What the program holds of a session, and where it ends (Manual 10.1, 10.2). The contracts of the system's `read` and `write` do not tell which
+-- Where a run stands after each turn, and where it ends (Manual 10.1, 10.2). The contracts of the system's `read` and `write` do not tell which
 -- bytes they move. So that they move those that they report, and that the program makes these calls, is read off the code and tested. When such a
 -- call is made again, and when a read or a write is over, is what `streams` proves.
 use mathlib.Core.Bool.{true, false}
-use mathlib.Core.List.{List, [], _∷_, _++_, flatten}
+use mathlib.Core.List.{List, [], _∷_, flatten}
 use mathlib.Core.Path.{_≡_}
-use Prim.Native.Nat.{ℕ, _+_, _-_, _^_, _≤_}
+use Prim.Native.Nat.{ℕ, _+_, _≤_}
 use lib.ListN.{length}
-use Rattle.framing.specs.Lines.{linesAfter, linesOf}
-use Rattle.framing.specs.Framing.{pendingOf}
-use Rattle.session.specs.declared.Reading.{Reading}
-use Rattle.transcript.specs.Session.{begun, withLines, sessionOf}
+use Rattle.transcript.specs.Session.{sessionOf}
 use Rattle.saying.specs.Standing.{At}
-
--- After some bytes of the input: the lines that a line feed has ended went to the engine, and the bytes behind them are kept.
-pub record Follows (input : List ℕ) (r : Reading) (history out : List ℕ) : Type 0 where
-  pub lines : List (List ℕ)
-  pub begun-line : List ℕ
-  pub cut : (rest : List ℕ) → linesOf (input ++ rest) ≡ lines ++ linesAfter begun-line rest
-  pub kept : r .pending ≡ pendingOf begun-line
-  pub progress : At (withLines begun lines) (r .session) history out
-
--- ---- a run
-
--- So many reads may deliver something, and no run uses them up: a proved loop has to end, and nothing says that the input does.
-abbrev pub mostReads : ℕ
-mostReads = 2 ^ 64 - 1
+use Rattle.reading.specs.declared.Reading.{Reading}
+use Rattle.reading.specs.Following.{mostReads, Follows}
 
 -- Every read delivered something.
 abbrev pub EachSome : List (List ℕ) → Type 0

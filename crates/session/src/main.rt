@@ -1,150 +1,15 @@
-// Bracket lines from standard input, answers to standard output. Nothing is kept of the input but the line that is being read, and all
-// answers are written before the program waits for more.
+// Bracket lines from standard input, answers to standard output.
 ghost use mathlib.Core.Bool.{true};
-ghost use mathlib.Core.List.{List};
 ghost use mathlib.Core.Path.{_≡_};
-ghost use Prim.Native.Nat.{ℕ, _+_, _≤_};
 ghost use lib.ListN.{length, replicate};
-ghost use Rattle.transcript.specs.Session.{sessionOf};
-ghost use Rattle.saying.specs.Standing.{At};
-ghost use Rattle.saying.specs.Saying.{FailureKept, buffered};
-ghost use Rattle.session.specs.Turns.{FollowsOn, LastSaid, Received, Flushed, Turned, firstReading};
-ghost use Rattle.session.specs.Program.{Follows, Ran};
-use framing::Pending;
-use saying::Session;
-use saying::Waiting;
-
-// A session, the line that it is reading, whether there is more to read, and how many more reads may deliver something. A proved loop has to
-// end, and nothing says that the input does: they are counted down from a number that no run uses up.
-struct Reading {
-    session: Session,
-    pending: Pending,
-    more: bool,
-    left: u64,
-}
+ghost use Rattle.session.specs.Program.{Ran};
+use reading::Reading;
 
 // The history that is lent has 4,096 places (Manual 8.1).
 fn history_places() -> [u32; 4096]
     ensures { λ r. ⌜ r ≡ replicate 4096 0 ⌝ }
 {
     [0u32; 4096]
-}
-
-// The lines that a chunk of the input completes.
-fn take_chunk(reading: Reading, history: &mut [u32], out: &mut [u8], chunk: &[u8]) -> Reading
-    requires { ⌜ 1 ≤ reading .left ⌝ }
-    ensures { λ r. ⌜ ((input : List ℕ) (f : Follows input reading (now (history .entry)) (now (out .entry))) →
-        FollowsOn input reading (now (history .entry)) (now (out .entry)) f (now (chunk .entry)) r (now (history .exit)) (now (out .exit))
-        (buffered (now (out .exit)) (r .session .waiting))) ⌝ }
-    ensures { λ r. ⌜ r .more ≡ true ⌝ }
-    ensures { λ r. ⌜ r .left + 1 ≡ reading .left ⌝ }
-    ensures { λ r. ⌜ FailureKept (reading .session .waiting) (r .session .waiting) ⌝ }
-{
-    let left = reading.left - 1;
-    let mut session = reading.session;
-    let mut pending = reading.pending;
-    let mut from = 0;
-    loop {
-        let frame = framing::scan(chunk, from, pending);
-        pending = frame.pending;
-        if !frame.complete {
-            return Reading {
-                session,
-                pending,
-                more: true,
-                left,
-            };
-        }
-        session = saying::take_pending(session, history, out, pending);
-        pending = framing::empty();
-        from = frame.next;
-    }
-}
-
-// The end of the input: bytes after the last line feed are a line too (Manual 4.1).
-fn take_last(reading: Reading, history: &mut [u32], out: &mut [u8]) -> Session
-    ensures { λ r. ⌜ ((input : List ℕ) → Follows input reading (now (history .entry)) (now (out .entry)) →
-        At (sessionOf input) r (now (history .exit)) (now (out .exit))) ⌝ }
-    ensures { λ r. ⌜ FailureKept (reading .session .waiting) (r .waiting) ⌝ }
-    ensures { λ r. ⌜ ((input : List ℕ) (f : Follows input reading (now (history .entry)) (now (out .entry))) →
-        LastSaid input reading (now (history .entry)) (now (out .entry)) f (buffered (now (out .exit)) (r .waiting))) ⌝ }
-{
-    let pending = reading.pending;
-    saying::take_pending(reading.session, history, out, pending)
-}
-
-// What a read that answered `got` delivered to the front of the chunk; nothing is the end of the input, and so is a read that failed.
-fn take_read(
-    reading: Reading,
-    history: &mut [u32],
-    out: &mut [u8],
-    chunk: &[u8],
-    got: isize,
-) -> Reading
-    requires { ⌜ 1 ≤ reading .left ⌝ }
-    ensures { λ r. ⌜ ((input : List ℕ) (f : Follows input reading (now (history .entry)) (now (out .entry))) →
-        Received input reading (now (history .entry)) (now (out .entry)) f (now (chunk .entry)) got r (now (history .exit)) (now (out .exit))) ⌝ }
-    ensures { λ r. ⌜ FailureKept (reading .session .waiting) (r .session .waiting) ⌝ }
-{
-    let count = io::count(got, chunk);
-    if count == 0 {
-        let pending = reading.pending;
-        let left = reading.left;
-        return Reading {
-            session: take_last(reading, history, out),
-            pending,
-            more: false,
-            left,
-        };
-    }
-    take_chunk(reading, history, out, framing::front(chunk, count))
-}
-
-// Once what waited is flushed: a write that failed ends the session.
-fn after_flush(reading: Reading, flushed: Waiting) -> Reading
-    ensures { λ r. ⌜ Flushed reading flushed r ⌝ }
-{
-    let state = reading.session.state;
-    let pending = reading.pending;
-    let left = reading.left;
-    Reading {
-        session: Session {
-            state,
-            waiting: flushed,
-        },
-        pending,
-        more: reading.more && flushed.sound,
-        left,
-    }
-}
-
-// Reads once, which may take several calls, takes what was read, and writes what is answered.
-fn turn(reading: Reading, history: &mut [u32], out: &mut [u8], chunk: &mut [u8]) -> Reading
-    requires { ⌜ 1 ≤ reading .left ⌝ }
-    ensures { λ r. ⌜ ((input : List ℕ) (f : Follows input reading (now (history .entry)) (now (out .entry))) →
-        Turned input reading (now (history .entry)) (now (out .entry)) f (now (chunk .exit)) r (now (history .exit)) (now (out .exit))) ⌝ }
-    ensures { λ r. ⌜ FailureKept (reading .session .waiting) (r .session .waiting) ⌝ }
-{
-    let read = streams::read(chunk);
-    let taken = take_read(reading, history, out, chunk, read.last.got);
-    let waiting = taken.session.waiting;
-    let flushed = saying::flush(out, waiting);
-    after_flush(taken, flushed)
-}
-
-// A fresh engine, nothing read, nothing said.
-fn begin() -> Reading
-    ensures { λ r. ⌜ r ≡ firstReading ⌝ }
-{
-    Reading {
-        session: Session {
-            state: engine::fresh(),
-            waiting: saying::emptied(true),
-        },
-        pending: framing::empty(),
-        more: true,
-        left: u64::MAX,
-    }
 }
 
 // Turn after turn, to the end of the input or to a write that failed.
@@ -155,9 +20,9 @@ fn run(history: &mut [u32], out: &mut [u8], chunk: &mut [u8]) -> Reading
     ensures { λ r. ⌜ Ran r (now (history .exit)) (now (out .exit)) ⌝ }
     ensures { λ r. ⌜ (r .more ≡ true → r .left ≡ 0) ⌝ }
 {
-    let mut reading = begin();
+    let mut reading = reading::begin();
     while reading.more && reading.left > 0 {
-        reading = turn(reading, history, out, chunk);
+        reading = reading::turn(reading, history, out, chunk);
     }
     reading
 }

@@ -3,8 +3,8 @@ use Prim.Native.Nat.{suc, _+_, _-_, _≤_}
 use native.Mathlib.Omega.{arith}
 use mathlib.Core.Path.{_≡_, refl}
 use lib.ListN.{length}
-use Rattle.saying.specs.Saying.{FailureKept}
-use Rattle.saying.proofs.WhatWaits.{nothing-into}
+use Rattle.output.specs.Output.{FailureKept}
+use Rattle.output.proofs.WhatWaits.{nothing-into}
 use Rattle.transcript.proofs.LaterLines.{later-few}
 use Rattle.saying.proofs.ListingSaid.{Listed, ListedInto, none-listed, all-listed, past-listed, one-listed, all-into, one-into}
 use borrow.Author.Needs.{needs}

@@ -1,4 +1,5 @@
 -- The engine takes the line; its answer is said, and the lines of a listing after it.
+use mathlib.Core.Path.{refl}
 use Rattle.saying.proofs.LineTaken.{line-skipped, line-said, line-listed, skipped-into, said-into, listed-into}
 use borrow.Author.Needs.{needs}
 use Rattle.saying.proofs.take_line.Statement.{statement}
@@ -14,13 +15,11 @@ same-length : tie.Need-same-length
 same-length c = search needs
 
 returns : tie.Need-returns
-returns c = (
-  λ p at. line-skipped p _ _ _ _ at (c .before .before .before .before .before .before .line .ensures) (search needs) (search needs) (c .if1 .taken),
-  (
-    λ failed. failed,
-    λ p at. skipped-into p _ _ _ _ at (c .before .before .before .before .before .before .line .ensures) (search needs) (search needs) (c .if1 .taken),
-  ),
-)
+returns c =
+    let line = c .before .before .before .before .before .before .line in (
+      λ p at. line-skipped p _ _ _ _ at (line .ensures) refl (line .kept .1 .1 .1 .0) (c .if1 .taken),
+      (λ failed. failed, λ p at. skipped-into p _ _ _ _ at (line .ensures) refl (line .kept .1 .1 .1 .0) (c .if1 .taken)),
+    )
 
 slice-aggregate-front : tie.Need-slice-aggregate-front
 slice-aggregate-front c = search needs
@@ -44,15 +43,17 @@ returns-2 : tie.Need-returns-2
 returns-2 c =
     let line = c .before .before .before .before .before .before .before .before .before .before .before .before .before .before .before .before .before .line in
     let said = c .before .before .before .before .before .before .before .say in
+    let is = c .before .before .before .before .before .before .before .before .front .ensures in
+    let some = c .before .before .before .before .before .before .before .before .before .before .before .if1 .left in
     let listed = c .before .before .list in (
       λ p at.
-          line-listed p _ _ _ _ at (line .ensures) (search needs) (search needs) (c .before .before .before .before .before .before .before .before .before .before .before .if1 .left) (said .ensures .0)
-          (said .ensures .1 .1) (search needs) (search needs) (search needs) (listed .ensures .0),
+          line-listed p _ _ _ _ at (line .ensures) refl (line .kept .1 .1 .1 .0) some (said .ensures .0) (said .ensures .1 .1) is (said .kept .0) (listed .kept .1 .0)
+          (listed .ensures .0),
       (
         λ failed. listed .ensures .1 .0 (said .ensures .1 .0 failed),
         λ p at.
-            listed-into p _ _ _ _ at (line .ensures) (search needs) (search needs) (c .before .before .before .before .before .before .before .before .before .before .before .if1 .left) (said .ensures .0)
-            (said .ensures .1 .1) (search needs) (search needs) (listed .ensures .0) (listed .ensures .1 .1),
+            listed-into p _ _ _ _ at (line .ensures) refl (line .kept .1 .1 .1 .0) some (said .ensures .0) (said .ensures .1 .1) is (said .kept .0) (listed .ensures .0)
+            (listed .ensures .1 .1),
       ),
     )
 
@@ -65,14 +66,14 @@ same-length-5 c = search needs
 returns-3 : tie.Need-returns-3
 returns-3 c =
     let line = c .before .before .before .before .before .before .before .before .before .before .before .before .before .line in
-    let said = c .before .before .before .say in (
+    let said = c .before .before .before .say in
+    let is = c .before .before .before .before .front .ensures in
+    let some = c .before .before .before .before .before .before .before .if1 .left in (
       λ p at.
-          line-said p _ _ _ _ at (line .ensures) (search needs) (search needs) (c .before .before .before .before .before .before .before .if1 .left) (said .ensures .0) (said .ensures .1 .1) (search needs) (c .if2 .left)
-          (search needs),
+          line-said p _ _ _ _ at (line .ensures) refl (line .kept .1 .1 .1 .0) some (said .ensures .0) (said .ensures .1 .1) is (c .if2 .left) (said .kept .0),
       (
         said .ensures .1 .0,
-        λ p at.
-            said-into p _ _ _ _ at (line .ensures) (search needs) (search needs) (c .before .before .before .before .before .before .before .if1 .left) (said .ensures .0) (said .ensures .1 .1) (search needs) (c .if2 .left),
+        λ p at. said-into p _ _ _ _ at (line .ensures) refl (line .kept .1 .1 .1 .0) some (said .ensures .0) (said .ensures .1 .1) is (c .if2 .left),
       ),
     )
 
