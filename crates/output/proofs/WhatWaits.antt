@@ -2,7 +2,7 @@
 use Prim.Native.Nat.{ℕ, _+_, _-_, _≤_, _<_}
 use native.Mathlib.Omega.{arith}
 use mathlib.Core.Path.{_≡_, refl, sym, ap, _∙_}
-use mathlib.Core.Bool.{Bool, true, false}
+use mathlib.Core.Bool.{Bool, true, false, cond}
 use mathlib.Core.List.{List, [], _∷_, _++_, append-nil, append-assoc}
 use lib.ListN.{length, take, length-append}
 use lib.Seq.{take-paste, length-paste, take-length}
@@ -11,7 +11,7 @@ use Rattle.framing.specs.Framing.{fitting, placed, lineFits, LinePut}
 use Rattle.framing.proofs.Places.{fits-whole}
 use Rattle.output.specs.declared.Waiting.{Waiting}
 use Rattle.output.specs.Waits.{Waits}
-use Rattle.output.specs.Output.{Buffer, saidInto, allSaidInto}
+use Rattle.output.specs.Output.{Buffer, linePut, saidInto, allSaidInto}
 
 -- Nothing waits once it is written.
 pub waits-nothing : {said out : List ℕ} {w : Waiting} (v : Waiting) → Waits said out w → v .len ≡ 0 → Waits said out v
@@ -64,13 +64,24 @@ first-waits {out = out} {line = line} {w = w} {b = b} h p stays again front less
 
 -- ---- the buffer, as an equation
 
+-- What the code puts is what is put.
+put-into : {out line out' : List ℕ} {at place : ℕ} → LinePut out at line place out'
+    → _≡_ {A = Buffer} (record { bytes = out'; len = place }) (linePut (record { bytes = out; len = at }) line)
+unfolding linePut
+put-into {out} {line} {out'} {at} {place} p = go (lineFits out at line) refl
+  where
+    go : (t : Bool) → lineFits out at line ≡ t
+        → _≡_ {A = Buffer} (record { bytes = out'; len = place }) (cond (lineFits out at line) (record { bytes = placed out at (line ++ (10 ∷ [])); len = at + (length line + 1) }) (record { bytes = out; len = at }))
+    go true f = rw (f, rw f at (p .stands), rw f at (p .counted))
+    go false f = rw (f, rw f at (p .stands), rw f at (p .counted))
+
 module _ {out line : List ℕ} {at place : ℕ} {out' : List ℕ} (p : LinePut out at line place out') where
   abbrev Into : List ℕ → ℕ → Type 0
   Into bytes len = _≡_ {A = Buffer} (record { bytes = bytes; len = len }) (saidInto (record { bytes = out; len = at }) line)
 
   into-by : (t : Bool) → lineFits out at line ≡ t → at < place → Into out' place
   unfolding saidInto
-  into-by true f less = rw (f, rw f at (p .stands), rw f at (p .counted))
+  into-by true f less = rw f (put-into p)
   into-by false f less = absurd (omega (arith, rw f at (p .counted)))
 
   -- The place moved: the line stands behind what waited.
@@ -78,19 +89,15 @@ module _ {out line : List ℕ} {at place : ℕ} {out' : List ℕ} (p : LinePut o
   line-into = into-by (lineFits out at line) refl
 
   front-by : {out'' : List ℕ} {first last : ℕ} (t : Bool) → lineFits out at line ≡ t → place ≤ at → LinePut out' first line last out'' → first ≡ 0
-      → length line < length out → Into out'' last
-  unfolding saidInto lineFits
-  front-by true f stays again front less = absurd (omega (arith, rw f at (p .counted)))
-  front-by {out''} {last = last} false f stays again front less =
+      → Into out'' last
+  unfolding saidInto
+  front-by true f stays again front = absurd (omega (arith, rw f at (p .counted)))
+  front-by false f stays again front =
       let same : out' ≡ out = rw f at (p .stands) in
-      let put : LinePut out 0 line last out'' = rw (same, front) at again in
-      let room = lt-ltb (length line) (length out - 0) (omega arith) in
-      let counted : last ≡ 0 + (length line + 1) = rw room at (put .counted) in
-      let size : last ≡ length line + 1 = omega (arith, counted) in
-      rw (f, rw room at (put .stands), size)
+      rw f (put-into (rw (same, front) at again))
 
-  -- The place did not move: the line stands in front.
-  pub first-into : {out'' : List ℕ} {first last : ℕ} → place ≤ at → LinePut out' first line last out'' → first ≡ 0 → length line < length out → Into out'' last
+  -- The place did not move: the line is put in front.
+  pub first-into : {out'' : List ℕ} {first last : ℕ} → place ≤ at → LinePut out' first line last out'' → first ≡ 0 → Into out'' last
   first-into = front-by (lineFits out at line) refl
 
 pub nothing-into : (b : Buffer) → b ≡ allSaidInto b []

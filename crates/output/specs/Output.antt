@@ -19,12 +19,16 @@ pub record Buffer : Type 0 where
 abbrev pub buffered : List ℕ → Waiting → Buffer
 buffered out w = record { bytes = out; len = w .len }
 
--- A line said: it stands with its line feed behind what waits. Where it has no room there, what waits is written, and the line stands in front.
-unfoldable pub saidInto : Buffer → List ℕ → Buffer
-saidInto b line =
+-- A line with its line feed put behind what waits, or nothing where it has no room there.
+unfoldable pub linePut : Buffer → List ℕ → Buffer
+linePut b line =
     cond (lineFits (b .bytes) (b .len) line)
     (record { bytes = placed (b .bytes) (b .len) (line ++ (10 ∷ [])); len = b .len + (length line + 1) })
-    (record { bytes = placed (b .bytes) 0 (line ++ (10 ∷ [])); len = length line + 1 })
+    b
+
+-- A line said: it is put behind what waits. Where it has no room there, what waits is written, and the line is put in front.
+unfoldable pub saidInto : Buffer → List ℕ → Buffer
+saidInto b line = cond (lineFits (b .bytes) (b .len) line) (linePut b line) (linePut (record { bytes = b .bytes; len = 0 }) line)
 
 -- Lines said one after the other.
 unfoldable pub allSaidInto : Buffer → List (List ℕ) → Buffer

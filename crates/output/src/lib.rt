@@ -37,13 +37,13 @@ pub fn flush(out: &[u8], waiting: Waiting) -> Waiting
     emptied(written.whole)
 }
 
-// An answer line with its line feed, behind those that wait; where there is no room, these are written first.
+// An answer line with its line feed, behind those that wait; where there is no room, these are written first. A line that the whole buffer
+// has no room for is not said.
 pub fn say(out: &mut [u8], waiting: Waiting, answer: &[u8]) -> Waiting
     ensures { λ r. ⌜ ((said : List ℕ) → length (now (answer .entry)) < length (now (out .entry)) → Waits said (now (out .entry)) waiting →
         Waits (said ++ (now (answer .entry) ++ (10 ∷ []))) (now (out .exit)) r) ⌝ }
     ensures { λ r. ⌜ FailureKept waiting r ⌝ }
-    ensures { λ r. ⌜ (length (now (answer .entry)) < length (now (out .entry)) →
-        buffered (now (out .exit)) r ≡ saidInto (buffered (now (out .entry)) waiting) (now (answer .entry))) ⌝ }
+    ensures { λ r. ⌜ buffered (now (out .exit)) r ≡ saidInto (buffered (now (out .entry)) waiting) (now (answer .entry)) ⌝ }
 {
     let at = waiting.len;
     let len = framing::put_line(out, at, answer);

@@ -107,8 +107,7 @@ module _ (p : Progress) (s : Session) (history out line : List ℕ) (at : At p s
     first-put : buffered out₁ w₁ ≡ allSaidInto (buffered out (s .waiting)) (after .bytes ∷ [])
     unfolding allSaidInto
     first-put =
-        let short : length shown < length out = omega (arith, ap length is ∙ length-take (r .len) answer', at .size) in
-        rw (is, bytes-after) at (into short)
+        rw (is, bytes-after) at into
 
     pub said-into : r .state .listed ≡ false → buffered out₁ w₁ ≡ allSaidInto (buffered out (s .waiting)) (saidTo p line)
     unfolding after saidTo answerTo

@@ -26,7 +26,7 @@ abbrev pub SaidThere : List ℕ → Waiting → List ℕ → List ℕ → Waitin
 SaidThere out w line out' w' = (said : List ℕ) → length line < length out → Waits said out w → Waits (said ++ (line ++ (10 ∷ []))) out' w'
 
 abbrev pub PutThere : List ℕ → Waiting → List ℕ → List ℕ → Waiting → Type 0
-PutThere out w line out' w' = length line < length out → buffered out' w' ≡ saidInto (buffered out w) line
+PutThere out w line out' w' = buffered out' w' ≡ saidInto (buffered out w) line
 
 -- The first n of the later lines were said.
 abbrev pub Listed : State → List ℕ → Waiting → ℕ → List ℕ → Waiting → Type 0
@@ -94,6 +94,5 @@ module _ (s : State) (out₀ : List ℕ) (w₀ : Waiting) where
         let there = ap₂ (fetchedBytes e) is size ∙ line-fetched e n in
         let bytes : line ≡ getD (laterLines e) n [] = shown ∙ bytes-fetched e number answer f answer' given ∙ there in
         let less = one-left e n (λ z. some (given .len ∙ ap length there ∙ z)) in
-        let short : length line < length out = omega (arith, ap length shown ∙ length-take (f .len) answer') in
         rw (is, take-suc (laterLines e) n [] less, into-append (buffered out₀ w₀) (take n (laterLines e)) (getD (laterLines e) n [] ∷ []), ← bytes, ← b e h held big)
-        (into short)
+        into

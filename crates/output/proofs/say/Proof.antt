@@ -14,7 +14,7 @@ returns : tie.Need-returns
 returns c =
     let put = c .before .before .before .put-line in (
       λ said less w. line-waits w _ (put .ensures) (c .if1 .taken),
-      (λ failed. failed, λ less. line-into (put .ensures) (c .if1 .taken)),
+      (λ failed. failed, line-into (put .ensures) (c .if1 .taken)),
     )
 
 flush-requires : tie.Need-flush-requires
@@ -33,7 +33,7 @@ returns-2 c =
     let flushed = c .before .before .before .before .flush in
     let stays = c .before .before .before .before .before .before .if1 .left in (
       λ said less w. first-waits w (put .ensures) stays (again .ensures) (search needs) less,
-      (λ failed. let kept = flushed .ensures .1 failed in search needs, λ less. first-into (put .ensures) stays (again .ensures) (search needs) less),
+      (λ failed. let kept = flushed .ensures .1 failed in search needs, first-into (put .ensures) stays (again .ensures) (search needs)),
     )
 
 pub say-spec : {M : Type 1} → statement M
