@@ -1,5 +1,5 @@
 -- A line that is no form of a stage's own; how many slices a sum has that was just opened.
-use mathlib.Core.Path.{_≡_, ap}
+use mathlib.Core.Path.{_≡_, refl, ap}
 use mathlib.Core.Bool.{not, cond}
 use mathlib.Core.List.{List, [], _∷_, _++_}
 use Prim.Native.Nat.{ℕ, zero, suc, _^_}
@@ -11,8 +11,12 @@ use Rattle.held.specs.declared.Held.{Held}
 use Rattle.held.specs.Circuit.{Circuit}
 use Rattle.held.specs.Memory.{encodeCircuit, SoundCircuit}
 use Rattle.forms.specs.declared.Form.{Form}
+use Rattle.forms.specs.declared.Form.the-variants as Form
 use Rattle.forms.proofs.Form.{the-type}
+use Rattle.answers.specs.declared.Answer.the-variants as Answer
+use Rattle.sums.specs.declared.Sum.{Sum}
 use Rattle.sums.proofs.StepsTaken.{slices-counted}
+use Rattle.stages.specs.Promises.{refusalIn, givenBack}
 
 -- The numbers of the forms, those below n, and all besides one of them.
 abbrev below : ℕ → List ℕ
@@ -29,6 +33,24 @@ besides f = without (tagOf the-type f) (below 13)
 -- A stage that finds none but other forms does not find its own.
 pub own-form : {A : Type 0} (form own : Form) → form ≡ own → T (not (hasKey (besides own) (tagOf the-type own))) → OneOf (besides own) (tagOf the-type form) → A
 own-form form own e h o = absurd (miss (besides own) (tagOf the-type own) h (rw e at o))
+
+-- A form that was not refused is given back with no number.
+pub not-refused : (k : Held) (x : Sum) (form : Form) → OneOf (below 12) (tagOf the-type form) →
+    record { circuit = k; sum = x; answer = Answer.Refused 0 } ≡ givenBack k x form
+unfolding givenBack refusalIn
+not-refused k x (Form.Circuit m) o = refl
+not-refused k x (Form.Ccz i j l) o = refl
+not-refused k x (Form.Cz p q) o = refl
+not-refused k x (Form.Cnot C c t) o = refl
+not-refused k x (Form.Layer n) o = refl
+not-refused k x (Form.Undo n) o = refl
+not-refused k x (Form.Start r b g) o = refl
+not-refused k x (Form.Amp C r b g) o = refl
+not-refused k x (Form.Part C u v) o = refl
+not-refused k x (Form.Step n) o = refl
+not-refused k x Form.Drop o = refl
+not-refused k x Form.Terms o = refl
+not-refused k x (Form.Refused e) o = absurd (miss (below 12) 12 tt o)
 
 -- ---- positions
 

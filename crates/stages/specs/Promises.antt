@@ -9,6 +9,8 @@ use Rattle.circuit.specs.Sum.{areGates}
 use Rattle.held.specs.declared.Held.{Held}
 use Rattle.held.specs.Circuit.{Circuit, withGates, withoutLast}
 use Rattle.held.specs.Memory.{encodeCircuit, stored, SoundCircuit, Stored}
+use Rattle.forms.specs.declared.Form.{Form}
+use Rattle.forms.specs.declared.Form.the-variants as Form
 use Rattle.answers.specs.declared.Answer.the-variants as Answer
 use Rattle.sums.specs.declared.Sum.{Sum}
 use Rattle.sums.specs.Sums.{Opened, encodeSum}
@@ -42,3 +44,22 @@ abbrev pub TakesBack : ℕ → Held → Sum → List ℕ → Left → Type 0
 TakesBack n k x h r =
     (c : Circuit) (o : Opened) → SoundCircuit c → Stored (c .gates) h → k ≡ encodeCircuit c → x ≡ encodeSum o →
     Done (gives (withoutLast n c) o Answer.Ok) r
+
+-- A form that is none of a stage's own is given back: nothing is changed. A refused line keeps its refusal, and 0 stands for none.
+unfoldable pub refusalIn : Form → ℕ
+refusalIn (Form.Circuit m) = 0
+refusalIn (Form.Ccz i j k) = 0
+refusalIn (Form.Cz p q) = 0
+refusalIn (Form.Cnot C c t) = 0
+refusalIn (Form.Layer n) = 0
+refusalIn (Form.Undo k) = 0
+refusalIn (Form.Start r b g) = 0
+refusalIn (Form.Amp C r b g) = 0
+refusalIn (Form.Part C x y) = 0
+refusalIn (Form.Step k) = 0
+refusalIn Form.Drop = 0
+refusalIn Form.Terms = 0
+refusalIn (Form.Refused e) = e
+
+unfoldable pub givenBack : Held → Sum → Form → Left
+givenBack k x f = record { circuit = k; sum = x; answer = Answer.Refused (refusalIn f) }

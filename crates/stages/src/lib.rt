@@ -14,7 +14,7 @@ ghost use Rattle.gates.specs.Gates.{gatesMet};
 ghost use Rattle.forms.specs.Typed.{amp, part, opens, step, drop, terms};
 ghost use Rattle.sums.specs.Sums.{Opened, closed, encodeSum};
 ghost use Rattle.stages.specs.Stages.{gives, accepted};
-ghost use Rattle.stages.specs.Promises.{Done, Does, Builds, TakesBack};
+ghost use Rattle.stages.specs.Promises.{Done, Does, Builds, TakesBack, givenBack};
 use answers::Answer;
 use circuit::Gate;
 use forms::Form;
@@ -33,7 +33,7 @@ pub struct Turn {
 
 // A line that is no form of a stage is given back with the refusal that it has.
 pub fn turned_back(circuit: Held, sum: Sum, form: Form) -> Turn
-    ensures { λ t. ⌜ (t .circuit ≡ circuit) × (t .sum ≡ sum) × ((e : ℕ) → form ≡ Form.Refused e → t .answer ≡ Answer.Refused e) ⌝ }
+    ensures { λ t. ⌜ t ≡ givenBack circuit sum form ⌝ }
 {
     if let Form::Refused(e) = form {
         return Turn {
@@ -51,6 +51,7 @@ pub fn turned_back(circuit: Held, sum: Sum, form: Form) -> Turn
 
 pub fn circuit_turn(circuit: Held, sum: Sum, form: Form) -> Turn
     ensures { λ t. ⌜ ((m : ℕ) → form ≡ Form.Circuit m → Done (gives (newCircuit m) closed Answer.Ok) t) ⌝ }
+    ensures { λ t. ⌜ (((m : ℕ) → form ≡ Form.Circuit m → ⊥) → t ≡ givenBack circuit sum form) ⌝ }
 {
     let Form::Circuit(m) = form else {
         return turned_back(circuit, sum, form);
@@ -78,6 +79,7 @@ fn with_gate(circuit: Held, sum: Sum, history: &mut [u32], g: Gate) -> Turn
 pub fn ccz_turn(circuit: Held, sum: Sum, history: &mut [u32], form: Form) -> Turn
     ensures { λ t. ⌜ ((i j k : ℕ) → form ≡ Form.Ccz i j k →
         Builds (Gate.Ccz i j k ∷ []) circuit sum (now (history .entry)) t (now (history .exit))) ⌝ }
+    ensures { λ t. ⌜ (((i j k : ℕ) → form ≡ Form.Ccz i j k → ⊥) → (t ≡ givenBack circuit sum form) × (now (history .exit) ≡ now (history .entry))) ⌝ }
 {
     let Form::Ccz(i, j, k) = form else {
         return turned_back(circuit, sum, form);
@@ -88,6 +90,7 @@ pub fn ccz_turn(circuit: Held, sum: Sum, history: &mut [u32], form: Form) -> Tur
 pub fn cz_turn(circuit: Held, sum: Sum, history: &mut [u32], form: Form) -> Turn
     ensures { λ t. ⌜ ((p q : Spot) → form ≡ Form.Cz p q →
         Builds (Gate.Cz p q ∷ []) circuit sum (now (history .entry)) t (now (history .exit))) ⌝ }
+    ensures { λ t. ⌜ (((p q : Spot) → form ≡ Form.Cz p q → ⊥) → (t ≡ givenBack circuit sum form) × (now (history .exit) ≡ now (history .entry))) ⌝ }
 {
     let Form::Cz(p, q) = form else {
         return turned_back(circuit, sum, form);
@@ -98,6 +101,7 @@ pub fn cz_turn(circuit: Held, sum: Sum, history: &mut [u32], form: Form) -> Turn
 pub fn cnot_turn(circuit: Held, sum: Sum, history: &mut [u32], form: Form) -> Turn
     ensures { λ t. ⌜ ((C : Colour) (c d : ℕ) → form ≡ Form.Cnot C c d →
         Builds (Gate.Cnot C c d ∷ []) circuit sum (now (history .entry)) t (now (history .exit))) ⌝ }
+    ensures { λ t. ⌜ (((C : Colour) (c d : ℕ) → form ≡ Form.Cnot C c d → ⊥) → (t ≡ givenBack circuit sum form) × (now (history .exit) ≡ now (history .entry))) ⌝ }
 {
     let Form::Cnot(colour, control, target) = form else {
         return turned_back(circuit, sum, form);
@@ -108,6 +112,7 @@ pub fn cnot_turn(circuit: Held, sum: Sum, history: &mut [u32], form: Form) -> Tu
 pub fn layer_turn(circuit: Held, sum: Sum, history: &mut [u32], line: &[u8], form: Form) -> Turn
     ensures { λ t. ⌜ ((n : ℕ) → form ≡ Form.Layer n →
         Builds (gatesMet n (now (line .entry)) 6) circuit sum (now (history .entry)) t (now (history .exit))) ⌝ }
+    ensures { λ t. ⌜ (((n : ℕ) → form ≡ Form.Layer n → ⊥) → (t ≡ givenBack circuit sum form) × (now (history .exit) ≡ now (history .entry))) ⌝ }
 {
     let Form::Layer(n) = form else {
         return turned_back(circuit, sum, form);
@@ -122,6 +127,7 @@ pub fn layer_turn(circuit: Held, sum: Sum, history: &mut [u32], line: &[u8], for
 
 pub fn undo_turn(circuit: Held, sum: Sum, history: &[u32], form: Form) -> Turn
     ensures { λ t. ⌜ ((k : ℕ) → form ≡ Form.Undo k → TakesBack k circuit sum (now (history .entry)) t) ⌝ }
+    ensures { λ t. ⌜ (((k : ℕ) → form ≡ Form.Undo k → ⊥) → t ≡ givenBack circuit sum form) ⌝ }
 {
     let Form::Undo(k) = form else {
         return turned_back(circuit, sum, form);
@@ -138,6 +144,7 @@ pub fn start_turn(circuit: Held, sum: Sum, form: Form) -> Turn
     ensures { λ t. ⌜ ((r b g : Bits) (s : Basis) → form ≡ Form.Start r b g →
         record { red = r .value; blue = b .value; green = g .value } ≡ numbersOf s →
         Does (λ c o. gives (withNewStart s c) o Answer.Ok) circuit sum t) ⌝ }
+    ensures { λ t. ⌜ (((r b g : Bits) → form ≡ Form.Start r b g → ⊥) → t ≡ givenBack circuit sum form) ⌝ }
 {
     let Form::Start(r, b, g) = form else {
         return turned_back(circuit, sum, form);
@@ -172,6 +179,7 @@ pub fn amplitude_turn(circuit: Held, sum: Sum, form: Form) -> Turn
     ensures { λ t. ⌜ ((C : Colour) (r b g : Bits) → form ≡ Form.Amp C r b g →
         Does (λ c o. accepted c o (opens (amp C (highFirst (c .m) (r .value)) (highFirst (c .m) (b .value)) (highFirst (c .m) (g .value)))))
         circuit sum t) ⌝ }
+    ensures { λ t. ⌜ (((C : Colour) (r b g : Bits) → form ≡ Form.Amp C r b g → ⊥) → t ≡ givenBack circuit sum form) ⌝ }
 {
     let Form::Amp(colour, r, b, g) = form else {
         return turned_back(circuit, sum, form);
@@ -185,6 +193,7 @@ pub fn amplitude_turn(circuit: Held, sum: Sum, form: Form) -> Turn
 pub fn readout_turn(circuit: Held, sum: Sum, form: Form) -> Turn
     ensures { λ t. ⌜ ((C : Colour) (x y : Bits) → form ≡ Form.Part C x y →
         Does (λ c o. accepted c o (opens (part C (highFirst (c .m) (x .value)) (highFirst (c .m) (y .value))))) circuit sum t) ⌝ }
+    ensures { λ t. ⌜ (((C : Colour) (x y : Bits) → form ≡ Form.Part C x y → ⊥) → t ≡ givenBack circuit sum form) ⌝ }
 {
     let Form::Part(colour, x, y) = form else {
         return turned_back(circuit, sum, form);
@@ -197,6 +206,7 @@ pub fn readout_turn(circuit: Held, sum: Sum, form: Form) -> Turn
 
 pub fn step_turn(circuit: Held, sum: Sum, form: Form) -> Turn
     ensures { λ t. ⌜ ((k : ℕ) → form ≡ Form.Step k → Does (λ c o. accepted c o (step k)) circuit sum t) ⌝ }
+    ensures { λ t. ⌜ (((k : ℕ) → form ≡ Form.Step k → ⊥) → t ≡ givenBack circuit sum form) ⌝ }
 {
     let Form::Step(k) = form else {
         return turned_back(circuit, sum, form);
@@ -213,6 +223,7 @@ pub fn step_turn(circuit: Held, sum: Sum, form: Form) -> Turn
 
 pub fn drop_turn(circuit: Held, sum: Sum, form: Form) -> Turn
     ensures { λ t. ⌜ (form ≡ Form.Drop → Does (λ c o. accepted c o drop) circuit sum t) ⌝ }
+    ensures { λ t. ⌜ ((form ≡ Form.Drop → ⊥) → t ≡ givenBack circuit sum form) ⌝ }
 {
     let Form::Drop = form else {
         return turned_back(circuit, sum, form);
@@ -227,6 +238,7 @@ pub fn drop_turn(circuit: Held, sum: Sum, form: Form) -> Turn
 
 pub fn terms_turn(circuit: Held, sum: Sum, form: Form) -> Turn
     ensures { λ t. ⌜ (form ≡ Form.Terms → Does (λ c o. accepted c o terms) circuit sum t) ⌝ }
+    ensures { λ t. ⌜ ((form ≡ Form.Terms → ⊥) → t ≡ givenBack circuit sum form) ⌝ }
 {
     let Form::Terms = form else {
         return turned_back(circuit, sum, form);

@@ -13,7 +13,7 @@ turned-back-requires : tie.Need-turned-back-requires
 turned-back-requires c κs = search needs
 
 returns : tie.Need-returns
-returns c C r b g e = own-form (c .before .before .args .form) _ e tt (c .before .match .keys2)
+returns c = (λ C r b g e. own-form (c .before .before .args .form) _ e tt (c .before .match .keys2), λ other. c .turned-back .ensures)
 
 open-amplitude-requires : tie.Need-open-amplitude-requires
 open-amplitude-requires c κs = search needs
@@ -23,13 +23,16 @@ with-sum-requires c κs = search needs
 
 returns-2 : tie.Need-returns-2
 unfolding accepted
-returns-2 c C r b g told k o sound opened is x =
-    let form = c .before .before .before .form .given in
-    let colour : form .0 .0 ≡ C = cc (form .1) in
-    let red : form .0 .1 .0 ≡ r = cc (form .1) in
-    let blue : form .0 .1 .1 .0 ≡ b = cc (form .1) in
-    let green : form .0 .1 .1 .1 .0 ≡ g = cc (form .1) in
-    rw (← colour, ← red, ← blue, ← green) (c .with-sum .ensures k _ sound is (c .before .open-amplitude .ensures k is sound))
+returns-2 c = (
+  λ C r b g told k o sound opened is x.
+      let form = c .before .before .before .form .given in
+      let colour : form .0 .0 ≡ C = cc (form .1) in
+      let red : form .0 .1 .0 ≡ r = cc (form .1) in
+      let blue : form .0 .1 .1 .0 ≡ b = cc (form .1) in
+      let green : form .0 .1 .1 .1 .0 ≡ g = cc (form .1) in
+      rw (← colour, ← red, ← blue, ← green) (c .with-sum .ensures k _ sound is (c .before .open-amplitude .ensures k is sound)),
+  λ other. absurd (other _ _ _ _ (c .before .before .before .form .given .1)),
+)
 
 pub amplitude-turn-spec : {M : Type 1} → statement M
 amplitude-turn-spec =

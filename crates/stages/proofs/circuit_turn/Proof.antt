@@ -12,7 +12,7 @@ turned-back-requires : tie.Need-turned-back-requires
 turned-back-requires c κs = search needs
 
 returns : tie.Need-returns
-returns c m e = own-form (c .before .before .args .form) _ e tt (c .before .match .keys2)
+returns c = (λ m e. own-form (c .before .before .args .form) _ e tt (c .before .match .keys2), λ other. c .turned-back .ensures)
 
 empty-requires : tie.Need-empty-requires
 empty-requires c κs = search needs
@@ -21,9 +21,12 @@ none-requires : tie.Need-none-requires
 none-requires c κs = search needs
 
 returns-2 : tie.Need-returns-2
-returns-2 c m e =
-    let same : c .before .before .before .form .given .0 .0 ≡ m = cc (c .before .before .before .form .given .1) in
-    rw (← same) (record { circuit = c .before .empty .ensures; sum = c .none .ensures; answer = refl })
+returns-2 c = (
+  λ m e.
+      let same : c .before .before .before .form .given .0 .0 ≡ m = cc (c .before .before .before .form .given .1) in
+      rw (← same) (record { circuit = c .before .empty .ensures; sum = c .none .ensures; answer = refl }),
+  λ other. absurd (other _ (c .before .before .before .form .given .1)),
+)
 
 pub circuit-turn-spec : {M : Type 1} → statement M
 circuit-turn-spec =

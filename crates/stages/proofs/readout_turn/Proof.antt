@@ -13,7 +13,7 @@ turned-back-requires : tie.Need-turned-back-requires
 turned-back-requires c κs = search needs
 
 returns : tie.Need-returns
-returns c C x y e = own-form (c .before .before .args .form) _ e tt (c .before .match .keys2)
+returns c = (λ C x y e. own-form (c .before .before .args .form) _ e tt (c .before .match .keys2), λ other. c .turned-back .ensures)
 
 open-readout-requires : tie.Need-open-readout-requires
 open-readout-requires c κs = search needs
@@ -23,12 +23,15 @@ with-sum-requires c κs = search needs
 
 returns-2 : tie.Need-returns-2
 unfolding accepted
-returns-2 c C x y told k o sound opened is s =
-    let form = c .before .before .before .form .given in
-    let colour : form .0 .0 ≡ C = cc (form .1) in
-    let first : form .0 .1 .0 ≡ x = cc (form .1) in
-    let second : form .0 .1 .1 .0 ≡ y = cc (form .1) in
-    rw (← colour, ← first, ← second) (c .with-sum .ensures k _ sound is (c .before .open-readout .ensures k is sound))
+returns-2 c = (
+  λ C x y told k o sound opened is s.
+      let form = c .before .before .before .form .given in
+      let colour : form .0 .0 ≡ C = cc (form .1) in
+      let first : form .0 .1 .0 ≡ x = cc (form .1) in
+      let second : form .0 .1 .1 .0 ≡ y = cc (form .1) in
+      rw (← colour, ← first, ← second) (c .with-sum .ensures k _ sound is (c .before .open-readout .ensures k is sound)),
+  λ other. absurd (other _ _ _ (c .before .before .before .form .given .1)),
+)
 
 pub readout-turn-spec : {M : Type 1} → statement M
 readout-turn-spec =

@@ -12,18 +12,21 @@ turned-back-requires : tie.Need-turned-back-requires
 turned-back-requires c κs = search needs
 
 returns : tie.Need-returns
-returns c r b g s₀ e = own-form (c .before .before .args .form) _ e tt (c .before .match .keys2)
+returns c = (λ r b g s₀ e. own-form (c .before .before .args .form) _ e tt (c .before .match .keys2), λ other. c .turned-back .ensures)
 
 set-start-requires : tie.Need-set-start-requires
 set-start-requires c κs = search needs
 
 returns-2 : tie.Need-returns-2
-returns-2 c r b g s₀ told numbers k o sound opened is x =
-    let form = c .before .before .form .given in
-    let red : form .0 .0 ≡ r = cc (form .1) in
-    let blue : form .0 .1 .0 ≡ b = cc (form .1) in
-    let green : form .0 .1 .1 .0 ≡ g = cc (form .1) in
-    record { circuit = c .set-start .ensures k s₀ is (rw (← red, ← blue, ← green) at numbers); sum = x; answer = refl }
+returns-2 c = (
+  λ r b g s₀ told numbers k o sound opened is x.
+      let form = c .before .before .form .given in
+      let red : form .0 .0 ≡ r = cc (form .1) in
+      let blue : form .0 .1 .0 ≡ b = cc (form .1) in
+      let green : form .0 .1 .1 .0 ≡ g = cc (form .1) in
+      record { circuit = c .set-start .ensures k s₀ is (rw (← red, ← blue, ← green) at numbers); sum = x; answer = refl },
+  λ other. absurd (other _ _ _ (c .before .before .form .given .1)),
+)
 
 pub start-turn-spec : {M : Type 1} → statement M
 start-turn-spec =

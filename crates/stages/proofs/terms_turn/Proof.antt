@@ -16,15 +16,18 @@ turned-back-requires : tie.Need-turned-back-requires
 turned-back-requires c κs = search needs
 
 returns : tie.Need-returns
-returns c e = own-form (c .before .before .args .form) _ e tt (c .before .match .keys2)
+returns c = (λ e. own-form (c .before .before .args .form) _ e tt (c .before .match .keys2), λ other. c .turned-back .ensures)
 
 count-requires : tie.Need-count-requires
 count-requires c κs = search needs
 
 returns-2 : tie.Need-returns-2
 unfolding accepted encodeCircuit
-returns-2 c told k o sound opened is x =
-    record { circuit = is; sum = x; answer = ap Answer.Terms (c .count .ensures (polynomial (k .gates)) (ap (λ i. i .polynomial) is)) }
+returns-2 c = (
+  λ told k o sound opened is x.
+      record { circuit = is; sum = x; answer = ap Answer.Terms (c .count .ensures (polynomial (k .gates)) (ap (λ i. i .polynomial) is)) },
+  λ other. absurd (other (c .before .before .enum-told .given .1)),
+)
 
 pub terms-turn-spec : {M : Type 1} → statement M
 terms-turn-spec = tie.close (tie.spec enum-told turned-back-requires returns count-requires returns-2)

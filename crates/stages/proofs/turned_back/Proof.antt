@@ -1,7 +1,6 @@
--- A form that was refused keeps its number.
-use mathlib.Core.Path.{_≡_, refl, ap}
-use Rattle.answers.specs.declared.Answer.the-variants as Answer
-use Rattle.stages.proofs.StageLaws.{own-form}
+-- A form that was refused keeps its number, and any other has none.
+use Rattle.stages.specs.Promises.{refusalIn, givenBack}
+use Rattle.stages.proofs.StageLaws.{not-refused}
 use borrow.Author.Needs.{needs}
 use Rattle.stages.proofs.turned_back.Statement.{statement}
 use Rattle.stages.proofs.turned_back.Tie as tie
@@ -10,10 +9,11 @@ enum-known-form : tie.Need-enum-known-form
 enum-known-form c = search needs
 
 returns : tie.Need-returns
-returns c = (refl, refl, λ e is. ap Answer.Refused (let same : c .before .form .given .0 .0 ≡ e = cc (c .before .form .given .1) in same))
+unfolding givenBack refusalIn
+returns c = rw (c .before .form .given .1)
 
 returns-2 : tie.Need-returns-2
-returns-2 c = (refl, refl, λ e is. own-form (c .before .args .form) _ is tt (c .match .keys2))
+returns-2 c = not-refused _ _ (c .before .args .form) (c .match .keys2)
 
 pub turned-back-spec : {M : Type 1} → statement M
 turned-back-spec = tie.close (tie.spec enum-known-form returns returns-2)

@@ -13,17 +13,20 @@ turned-back-requires : tie.Need-turned-back-requires
 turned-back-requires c κs = search needs
 
 returns : tie.Need-returns
-returns c n e = own-form (c .before .before .before .args .form) _ e tt (c .before .match .keys2)
+returns c = (λ n e. own-form (c .before .before .before .args .form) _ e tt (c .before .match .keys2), λ other. c .turned-back .ensures)
 
 undo-requires : tie.Need-undo-requires
 undo-requires c κs = search needs
 
 returns-2 : tie.Need-returns-2
-returns-2 c n told k o sound codes is x =
-    let form = c .before .before .form .given in
-    let same : form .0 .0 ≡ n = cc (form .1) in
-    let valid = gates-more (k .m) 16 (sound .most) (k .gates) (sound .gates) in
-    rw (← same) (record { circuit = c .undo .ensures k is valid codes; sum = x; answer = refl })
+returns-2 c = (
+  λ n told k o sound codes is x.
+      let form = c .before .before .form .given in
+      let same : form .0 .0 ≡ n = cc (form .1) in
+      let valid = gates-more (k .m) 16 (sound .most) (k .gates) (sound .gates) in
+      rw (← same) (record { circuit = c .undo .ensures k is valid codes; sum = x; answer = refl }),
+  λ other. absurd (other _ (c .before .before .form .given .1)),
+)
 
 pub undo-turn-spec : {M : Type 1} → statement M
 undo-turn-spec =

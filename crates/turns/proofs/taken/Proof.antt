@@ -87,73 +87,73 @@ returns : tie.Need-returns
 returns c k o t is f =
     let start = c .before .before .before .before .before in
     let told = c .before .enum-told .given .1 in
-    circuit-taken k o _ _ _ _ (held-told _ _ _ t (start .pre) is told) f (c .circuit-turn .ensures _ told)
+    circuit-taken k o _ _ _ _ (held-told _ _ _ t (start .pre) is told) f (c .circuit-turn .ensures .0 _ told)
 
 returns-2 : tie.Need-returns-2
 returns-2 c k o t is f =
     let start = c .before .before .before .before .before .before .before .before in
     let told = c .before .before .before .before .enum-told2 .given .1 in
-    ccz-taken k o _ _ _ _ _ _ (held-told _ _ _ t (start .pre) is told) is f (c .before .before .ccz-turn .ensures _ _ _ told)
+    ccz-taken k o _ _ _ _ _ _ (held-told _ _ _ t (start .pre) is told) is f (c .before .before .ccz-turn .ensures .0 _ _ _ told)
 
 returns-3 : tie.Need-returns-3
 returns-3 c k o t is f =
     let start = c .before .before .before .before .before .before .before .before in
     let told = c .before .before .before .before .enum-told3 .given .1 in
-    cz-taken k o _ _ _ _ _ _ (held-told _ _ _ t (start .pre) is told) is f (c .before .before .cz-turn .ensures _ _ told)
+    cz-taken k o _ _ _ _ _ _ (held-told _ _ _ t (start .pre) is told) is f (c .before .before .cz-turn .ensures .0 _ _ told)
 
 returns-4 : tie.Need-returns-4
 returns-4 c k o t is f =
     let start = c .before .before .before .before .before .before .before .before in
     let told = c .before .before .before .before .enum-told4 .given .1 in
-    cnot-taken k o _ _ _ _ _ _ (held-told _ _ _ t (start .pre) is told) is f (c .before .before .cnot-turn .ensures _ _ _ told)
+    cnot-taken k o _ _ _ _ _ _ (held-told _ _ _ t (start .pre) is told) is f (c .before .before .cnot-turn .ensures .0 _ _ _ told)
 
 returns-5 : tie.Need-returns-5
 returns-5 c k o t is f =
     let start = c .before .before .before .before .before .before .before .before in
     let told = c .before .before .before .before .enum-told5 .given .1 in
-    layer-taken k o _ _ _ _ _ _ (held-told _ _ _ t (start .pre) is told) is f (c .before .before .layer-turn .ensures _ told)
+    layer-taken k o _ _ _ _ _ _ (held-told _ _ _ t (start .pre) is told) is f (c .before .before .layer-turn .ensures .0 _ told)
 
 returns-6 : tie.Need-returns-6
 returns-6 c k o t is f =
     let start = c .before .before .before .before .before .before in
     let told = c .before .before .enum-told6 .given .1 in
-    undo-taken k o _ _ _ _ (held-told _ _ _ t (start .pre) is told) f (c .undo-turn .ensures _ told)
+    undo-taken k o _ _ _ _ (held-told _ _ _ t (start .pre) is told) f (c .undo-turn .ensures .0 _ told)
 
 returns-7 : tie.Need-returns-7
 returns-7 c k o t is f =
     let start = c .before .before .before .before .before in
     let told = c .before .enum-told7 .given .1 in
-    start-taken k o _ _ _ _ (held-told _ _ _ t (start .pre) is told) f (λ s₀. c .start-turn .ensures _ _ _ s₀ told)
+    start-taken k o _ _ _ _ (held-told _ _ _ t (start .pre) is told) f (λ s₀. c .start-turn .ensures .0 _ _ _ s₀ told)
 
 returns-8 : tie.Need-returns-8
 returns-8 c k o t is f =
     let start = c .before .before .before .before .before in
     let told = c .before .enum-told8 .given .1 in
-    amplitude-taken k o _ _ _ _ (held-told _ _ _ t (start .pre) is told) f (c .amplitude-turn .ensures _ _ _ _ told)
+    amplitude-taken k o _ _ _ _ (held-told _ _ _ t (start .pre) is told) f (c .amplitude-turn .ensures .0 _ _ _ _ told)
 
 returns-9 : tie.Need-returns-9
 returns-9 c k o t is f =
     let start = c .before .before .before .before .before in
     let told = c .before .enum-told9 .given .1 in
-    readout-taken k o _ _ _ _ (held-told _ _ _ t (start .pre) is told) f (c .readout-turn .ensures _ _ _ told)
+    readout-taken k o _ _ _ _ (held-told _ _ _ t (start .pre) is told) f (c .readout-turn .ensures .0 _ _ _ told)
 
 returns-10 : tie.Need-returns-10
 returns-10 c k o t is f =
     let start = c .before .before .before .before .before in
     let told = c .before .enum-told10 .given .1 in
-    step-taken k o _ _ _ _ (held-told _ _ _ t (start .pre) is told) f (c .step-turn .ensures _ told)
+    step-taken k o _ _ _ _ (held-told _ _ _ t (start .pre) is told) f (c .step-turn .ensures .0 _ told)
 
 returns-11 : tie.Need-returns-11
 returns-11 c k o t is f =
     let start = c .before .before .before .before .before in
     let told = c .before .enum-told11 .given .1 in
-    drop-taken k o _ _ _ _ (held-told _ _ _ t (start .pre) is told) f (c .drop-turn .ensures told)
+    drop-taken k o _ _ _ _ (held-told _ _ _ t (start .pre) is told) f (c .drop-turn .ensures .0 told)
 
 returns-12 : tie.Need-returns-12
 returns-12 c k o t is f =
     let start = c .before .before .before .before .before in
     let told = c .before .enum-told12 .given .1 in
-    terms-taken k o _ _ _ _ (held-told _ _ _ t (start .pre) is told) f (c .terms-turn .ensures told)
+    terms-taken k o _ _ _ _ (held-told _ _ _ t (start .pre) is told) f (c .terms-turn .ensures .0 told)
 
 returns-13 : tie.Need-returns-13
 returns-13 c k o t is f =
