@@ -1,0 +1,9 @@
+pub mod BitTests
+pub mod Successor
+pub mod SliceWords
+pub mod OutcomeTests
+pub mod EntryChecks
+pub mod SlicesAdded
+pub mod SliceSystem
+pub mod SliceAnswer
+pub mod SliceTotals
