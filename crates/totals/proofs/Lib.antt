@@ -1,6 +1,3 @@
-pub mod BitTests
-pub mod Successor
-pub mod SliceWords
 pub mod OutcomeTests
 pub mod EntryChecks
 pub mod SlicesAdded

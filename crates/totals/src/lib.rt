@@ -16,14 +16,13 @@ ghost use Rattle.totals.specs.Walking.{plusSlice, Walked};
 use crate::answer::Slice;
 use crate::answer::answer;
 use crate::answer::share;
-use crate::walks::changes;
-use crate::walks::next_rows;
-use crate::walks::rows_at;
 use elimination::WORDS;
 use tables::table::TABLE;
+use walks::changes;
+use walks::next_rows;
+use walks::rows_at;
 
 pub mod answer;
-mod walks;
 
 // The least and the most that an amplitude's total may be to have slices added. A sum's is at most 2^48 from 0.
 const LEAST: i64 = -(1 << 60);

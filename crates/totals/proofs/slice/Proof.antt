@@ -6,6 +6,7 @@ use Rattle.circuit.specs.Polynomial.{polynomial}
 use borrow.Author.Tests.{not-true, not-false}
 use Rattle.tables.specs.Packing.{strings, withOutput}
 use Rattle.slices.specs.Totals.{areSlices}
+use Rattle.walks.proofs.SliceWords.{rows-known}
 use Rattle.totals.specs.Answers.{answerOf, answerTo, answerAt}
 use Rattle.totals.proofs.EntryChecks.{range-holds}
 use Rattle.totals.proofs.SliceTotals.{answers}
@@ -23,7 +24,7 @@ returns c gs C r b g t =
     rw n
 
 rows-at-requires : tie.Need-rows-at-requires
-rows-at-requires c κs = range-holds _ _ 1 (sym (c .before .before .in-range .ensures) ∙ not-false _ (c .before .if1 .left)) .0
+rows-at-requires c κs = search needs
 
 cast-answer : tie.Need-cast-answer
 cast-answer c = omega (arith, range-holds _ _ 1 (sym (c .before .before .before .in-range .ensures) ∙ not-false _ (c .before .before .if1 .left)) .0)
@@ -41,11 +42,13 @@ returns-2 c gs C r b g t =
     let o : _ = c .before .eliminate in
     let x : _ = c .before .before .rows-at in
     let y : areSlices (a .m) (a .n) 1 ≡ true = sym (c .before .before .before .before .before .in-range .ensures) ∙ not-false _ (c .before .before .before .before .if1 .left) in
+    let h : _ = range-holds (a .m) (a .n) 1 y .0 in
+    let f : _ = withOutput (strings (a .m) r b g) (polynomial gs) in
     rw y
     (c .answer .ensures
     ∙ ap (answerOf (a .m)) (o .ensures)
-    ∙ ap (answerTo (a .m)) (x .ensures (withOutput (strings (a .m) r b g) (polynomial gs)) C (t .made))
-    ∙ answers (a .m) gs C r b g (a .t1) t (range-holds (a .m) (a .n) 1 y .0) (a .n))
+    ∙ ap (answerTo (a .m)) (rows-known (a .m) f C (a .n) (x .result) h (x .ensures f C (t .made)))
+    ∙ answers (a .m) gs C r b g (a .t1) t h (a .n))
 
 pub slice-spec : {M : Type 1} → statement M
 slice-spec =

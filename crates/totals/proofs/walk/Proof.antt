@@ -4,7 +4,7 @@ use Prim.Native.Nat.{_+_, _-_, _^_, _≤_, _<_}
 use native.Mathlib.Omega.{arith}
 use lib.Pow.{pow-mono}
 use Rattle.totals.specs.Walking.{Walked}
-use Rattle.totals.proofs.SliceWords.{rows-next}
+use Rattle.walks.proofs.SliceWords.{rows-known, rows-next}
 use Rattle.totals.proofs.SlicesAdded.{RowsAt, walked-none, walked-one, walked-two}
 use borrow.Author.Needs.{needs}
 use Rattle.totals.proofs.walk.Statement.{statement}
@@ -33,7 +33,12 @@ loop-holds : tie.Need-loop-holds Inv-loop μ-loop
 loop-holds c =
     let a : _ = c .before .before .args in
     let z : a .from - a .from ≡ 0 = omega arith in
-    (omega arith, omega arith, rw z (walked-none (a .table .now) (a .m) (a .from)), λ l. c .rows-at .ensures)
+    let p : _ = c .before .before .pre in (
+      omega arith,
+      omega arith,
+      rw z (walked-none (a .table .now) (a .m) (a .from)),
+      λ l f C e. rows-known (a .m) f C (a .from) (c .rows-at .result) (p .0) (c .rows-at .ensures f C e),
+    )
 
 add-loop : tie.Need-add-loop Inv-loop μ-loop
 add-loop c = omega (arith, pow-mono (c .before .before .before .pre .0))
@@ -42,7 +47,7 @@ add-next-rows : tie.Need-add-next-rows Inv-loop μ-loop
 add-next-rows c = omega (arith, pow-mono (c .before .before .before .before .before .pre .0))
 
 next-rows-requires : tie.Need-next-rows-requires Inv-loop μ-loop
-next-rows-requires c κs = omega (arith, pow-mono (c .before .before .before .before .before .pre .0))
+next-rows-requires c κs = search needs
 
 with-two-requires : tie.Need-with-two-requires Inv-loop μ-loop
 with-two-requires c κs =
@@ -53,7 +58,7 @@ add-n : tie.Need-add-n Inv-loop μ-loop
 add-n c = omega (arith, pow-mono (c .before .before .before .before .before .before .before .pre .0))
 
 next-rows-requires-2 : tie.Need-next-rows-requires-2 Inv-loop μ-loop
-next-rows-requires-2 c κs = omega (arith, pow-mono (c .before .before .before .before .before .before .before .before .pre .0))
+next-rows-requires-2 c κs = search needs
 
 loop-less : tie.Need-loop-less Inv-loop μ-loop
 loop-less c = omega arith

@@ -5,7 +5,7 @@ use lib.IntN.{pos, _*ℤ_}
 use Prim.Native.Nat.{_^_}
 use mir.Facts.{toZ-ofZ}
 use Rattle.gf2.specs.Sums.{sgn}
-use Rattle.totals.proofs.BitTests.{bit-set, bit-clear}
+use Rattle.walks.proofs.BitTests.{bit-set, bit-clear}
 use Rattle.totals.proofs.OutcomeTests.{power-cast, minus-fits, minus-power, plus-power}
 use borrow.Author.Needs.{needs}
 use Rattle.totals.proofs.answer.signed_power.Statement.{statement}

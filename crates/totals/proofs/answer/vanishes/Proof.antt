@@ -4,7 +4,7 @@ use mathlib.Core.Bool.{not, _||_}
 use Rattle.gf2.specs.Strings.{isZero}
 use Rattle.gf2.specs.Words.{lowFirst}
 use Rattle.totals.specs.Answers.{vanishing}
-use Rattle.totals.proofs.BitTests.{bit-set, bit-clear, low-tested}
+use Rattle.walks.proofs.BitTests.{bit-set, bit-clear, low-tested}
 use Rattle.totals.proofs.answer.vanishes.Statement.{statement}
 use Rattle.totals.proofs.answer.vanishes.Tie as tie
 

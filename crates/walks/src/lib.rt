@@ -1,14 +1,14 @@
 // From slice to slice: a slice's packed rows, and those of the slice after it.
 ghost use mathlib.Core.Path.{_≡_};
-ghost use Prim.Native.Nat.{ℕ, _+_, _-_, _*_, _≤_, _<_};
+ghost use Prim.Native.Nat.{_+_, _-_, _*_, min, _≤_, _<_};
 ghost use lib.Bits.{bitXor};
 ghost use lib.ListN.{getD};
 ghost use Rattle.gf2.specs.Digits.{highFirst};
 ghost use Rattle.circuit.specs.declared.Colour.{Colour};
 ghost use Rattle.circuit.specs.Polynomial.{Polynomial};
-ghost use Rattle.tables.specs.Packing.{packedWord, packedRows, tableOf};
+ghost use Rattle.tables.specs.Packing.{packedRows, tableOf};
 ghost use Rattle.slices.specs.Slices.{coefficient};
-ghost use Rattle.totals.specs.Walking.{lastPositions, rowsPlus, rowsNext};
+ghost use Rattle.walks.specs.Walks.{changesOf, rowsPlus, rowsNext};
 use elimination::WORDS;
 use tables::table::TABLE;
 
@@ -43,8 +43,15 @@ fn digit_at(m: usize, p: usize) -> usize
     m - p
 }
 
+// At most 16: no circuit has more positions, and no slice's number more digits.
+fn capped(k: usize) -> usize
+    ensures { λ r. ⌜ r ≡ min k 16 ⌝ }
+{
+    if 16 < k { 16 } else { k }
+}
+
 // The rows of slice `n`: those of the constant, and of each position whose digit is 1.
-pub(crate) fn rows_at(table: &[u64; TABLE], m: usize, n: usize) -> [u64; WORDS]
+fn rows_of(table: &[u64; TABLE], m: usize, n: usize) -> [u64; WORDS]
     requires { ⌜ m ≤ 16 ⌝ }
     ensures { λ r. ⌜ ((f : Polynomial) (C : Colour) → now (table .entry) ≡ tableOf C f → r ≡ packedRows (coefficient m f C (highFirst m n))) ⌝ }
 {
@@ -60,11 +67,17 @@ pub(crate) fn rows_at(table: &[u64; TABLE], m: usize, n: usize) -> [u64; WORDS]
     rows
 }
 
+// The rows of slice `n` of a circuit of `m` positions, or of 16 if that is fewer.
+pub fn rows_at(table: &[u64; TABLE], m: usize, n: usize) -> [u64; WORDS]
+    ensures { λ r. ⌜ ((f : Polynomial) (C : Colour) → now (table .entry) ≡ tableOf C f → r ≡ packedRows (coefficient (min m 16) f C (highFirst (min m 16) n))) ⌝ }
+{
+    rows_of(table, capped(m), n)
+}
+
 // What a step to the next slice adds: at `t`, the rows of the t + 1 last positions.
-pub(crate) fn changes(table: &[u64; TABLE], m: usize) -> [u64; TABLE]
+fn changes_of(table: &[u64; TABLE], m: usize) -> [u64; TABLE]
     requires { ⌜ m ≤ 16 ⌝ }
-    ensures { λ r. ⌜ ((f : Polynomial) (C : Colour) → now (table .entry) ≡ tableOf C f → (t w : ℕ) → t < m → w < 6 →
-        getD r (6 * t + w) 0 ≡ packedWord (lastPositions m f C t) w) ⌝ }
+    ensures { λ r. ⌜ ((f : Polynomial) (C : Colour) → now (table .entry) ≡ tableOf C f → r ≡ changesOf m f C) ⌝ }
 {
     let mut sums = [0u64; TABLE];
     let mut n = 0;
@@ -80,10 +93,16 @@ pub(crate) fn changes(table: &[u64; TABLE], m: usize) -> [u64; TABLE]
     sums
 }
 
+// What the steps add in a circuit of `m` positions, or of 16 if that is fewer.
+pub fn changes(table: &[u64; TABLE], m: usize) -> [u64; TABLE]
+    ensures { λ r. ⌜ ((f : Polynomial) (C : Colour) → now (table .entry) ≡ tableOf C f → r ≡ changesOf (min m 16) f C) ⌝ }
+{
+    changes_of(table, capped(m))
+}
+
 // The rows of slice `n` from those of the slice before it.
-pub(crate) fn next_rows(rows: [u64; WORDS], steps: &[u64; TABLE], n: usize) -> [u64; WORDS]
-    requires { ⌜ (0 < n) × (n ≤ 65536) ⌝ }
+pub fn next_rows(rows: [u64; WORDS], steps: &[u64; TABLE], n: usize) -> [u64; WORDS]
     ensures { λ r. ⌜ r ≡ rowsNext rows (now (steps .entry)) n ⌝ }
 {
-    moved(rows, steps, usize::trailing_zeros(n) as usize)
+    moved(rows, steps, capped(usize::trailing_zeros(n) as usize))
 }

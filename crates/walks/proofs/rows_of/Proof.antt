@@ -9,10 +9,10 @@ use Rattle.gf2.specs.Digits.{highFirst}
 use Rattle.circuit.specs.declared.Colour.{Colour}
 use Rattle.circuit.specs.Polynomial.{Polynomial}
 use Rattle.tables.specs.Packing.{packedRows, tableOf}
-use Rattle.totals.proofs.Successor.{digit-set, digit-clear}
-use Rattle.totals.proofs.SliceWords.{below, below-one, below-set, below-clear, below-all}
-use Rattle.totals.proofs.walks.rows_at.Statement.{statement}
-use Rattle.totals.proofs.walks.rows_at.Tie as tie
+use Rattle.walks.proofs.Successor.{digit-set, digit-clear}
+use Rattle.walks.proofs.SliceWords.{below, below-one, below-set, below-clear, below-all}
+use Rattle.walks.proofs.rows_of.Statement.{statement}
+use Rattle.walks.proofs.rows_of.Tie as tie
 
 abbrev Inv-loop : tie.InvT-loop
 Inv-loop table m n rows₀ p₀ rows p =
@@ -64,8 +64,8 @@ returns c f C e =
     let q : l .p ≡ suc (a .m) = omega arith in
     l .inv .2 f C e ∙ ap (λ (p : ℕ). packedRows (below p f C (highFirst (a .m) (a .n)))) q ∙ below-all (a .m) f C (highFirst (a .m) (a .n))
 
-pub rows-at-spec : {M : Type 1} → statement M
-rows-at-spec =
+pub rows-of-spec : {M : Type 1} → statement M
+rows-of-spec =
     tie.close
     (tie.spec
     Inv-loop

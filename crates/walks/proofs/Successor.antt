@@ -19,7 +19,7 @@ use Rattle.gf2.proofs.WordBits.{bitAt-half}
 use Rattle.gf2.proofs.HighFirst.{bit-highFirst}
 use Rattle.circuit.specs.Sum.{at}
 use Rattle.slices.proofs.Slicing.{parity-head}
-use Rattle.totals.proofs.BitTests.{bit-set, bit-clear}
+use Rattle.walks.proofs.BitTests.{bit-set, bit-clear}
 
 odd-next : (n : ℕ) → odd (n + 1) ≡ odd n ⊕ true
 unfolding odd bitOf

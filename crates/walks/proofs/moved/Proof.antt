@@ -1,8 +1,8 @@
 -- Each word is the sum of two, and the six are what the array holds.
 use borrow.Author.Needs.{needs}
 use Rattle.gf2.specs.Words.{tabulate}
-use Rattle.totals.proofs.walks.moved.Statement.{statement}
-use Rattle.totals.proofs.walks.moved.Tie as tie
+use Rattle.walks.proofs.moved.Statement.{statement}
+use Rattle.walks.proofs.moved.Tie as tie
 
 moved-word-requires : tie.Need-moved-word-requires
 moved-word-requires c κs = search needs

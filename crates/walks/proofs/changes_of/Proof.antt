@@ -1,29 +1,31 @@
 -- Word by word: the words in place are those of what a step adds, and each is the position's own word plus the word at the place before.
-use mathlib.Core.Path.{_≡_, _∙_, ap, ap₂}
+-- The words not yet in place are 0.
+use mathlib.Core.Path.{_≡_, _∙_, ap}
 use mathlib.Core.Logic.{⊎-elim}
 use mathlib.Core.List.{List}
-use Prim.Native.Nat.{ℕ, _+_, _-_, _*_, _/_, _%_, _≤_, _<_}
+use Prim.Native.Nat.{ℕ, _-_, _*_, _/_, _%_, _≤_, _<_}
 use native.Mathlib.Omega.{arith}
 use lib.ListN.{length, getD, length-set, length-replicate}
 use Rattle.circuit.specs.declared.Colour.{Colour}
 use Rattle.circuit.specs.Polynomial.{Polynomial}
 use Rattle.tables.specs.Packing.{packedWord, tableOf}
 use Rattle.tables.proofs.TableWords.{stored-more}
-use Rattle.totals.specs.Walking.{lastPositions}
-use Rattle.totals.proofs.SliceWords.{change-first, change-more}
-use Rattle.totals.proofs.walks.changes.Statement.{statement}
-use Rattle.totals.proofs.walks.changes.Tie as tie
+use Rattle.walks.specs.Walks.{lastPositions}
+use Rattle.walks.proofs.SliceWords.{change-first, change-more, changes-unique, zeros-at-first, zeros-after}
+use Rattle.walks.proofs.changes_of.Statement.{statement}
+use Rattle.walks.proofs.changes_of.Tie as tie
 
 abbrev Inv-loop : tie.InvT-loop
 Inv-loop table m sums₀ n₀ sums n =
     (n ≤ 6 * m) × (length sums ≡ 102)
     × ((f : Polynomial) (C : Colour) → table ≡ tableOf C f → (p : ℕ) → p < n → getD sums p 0 ≡ packedWord (lastPositions m f C (p / 6)) (p % 6))
+    × ((p : ℕ) → n ≤ p → getD sums p 0 ≡ 0)
 
 abbrev μ-loop : tie.MeasureT-loop
 μ-loop table m sums₀ n₀ sums n = 6 * m - n
 
 loop-holds : tie.Need-loop-holds Inv-loop μ-loop
-loop-holds c = (omega arith, simp length-replicate, λ f C e p h. absurd (omega arith))
+loop-holds c = (omega arith, simp length-replicate, λ f C e p h. absurd (omega arith), λ p h. zeros-at-first 102 p)
 
 mul-loop : tie.Need-mul-loop Inv-loop μ-loop
 mul-loop c = omega arith
@@ -81,17 +83,18 @@ loop-again c =
           ∙ stored-more (λ (p : ℕ). packedWord (lastPositions (a .m) f C (p / 6)) (p % 6)) (l .sums) (l .n) _ (omega arith)
           (change-more f C (a .table .now) e (a .m) (l .n) _ (omega arith) (omega arith) (l .inv .2 f C e (l .n - 6) (omega arith))) (l .inv .2 f C e) p h)
           (c .if1 .came),
+      ⊎-elim (λ w. zeros-after (l .sums) _ (l .n) _ (w .1) (l .inv .3)) (λ w. zeros-after (l .sums) _ (l .n) _ (w .1) (l .inv .3)) (c .if1 .came),
     )
 
 returns : tie.Need-returns Inv-loop μ-loop
-returns c f C e t w h l =
+returns c f C e =
     let m : ℕ = c .before .before .args .m in
-    let i : (6 * t + w) / 6 ≡ t = omega arith in
-    let j : (6 * t + w) % 6 ≡ w = omega arith in
-    c .before .loop .inv .2 f C e (6 * t + w) (omega arith) ∙ ap₂ (λ (x y : ℕ). packedWord (lastPositions m f C x) y) i j
+    let l : _ = c .before .loop in
+    let k : l .n ≡ 6 * m = omega arith in
+    changes-unique m f C (l .sums) (l .inv .1) (λ p h. l .inv .2 f C e p (omega arith)) (λ p h. l .inv .3 p (omega arith))
 
-pub changes-spec : {M : Type 1} → statement M
-changes-spec =
+pub changes-of-spec : {M : Type 1} → statement M
+changes-of-spec =
     tie.close
     (tie.spec
     Inv-loop

@@ -1,21 +1,23 @@
 -- The packed rows of a slice: those of the constant and of the positions whose digit is 1, and those of the slice before with what a step adds.
 use mathlib.Core.Path.{_≡_, refl, sym, _∙_, ap, ap₂}
-use mathlib.Core.Bool.{Bool, true, false, _&&_}
+use mathlib.Core.Bool.{Bool, true, false, cond, _&&_}
 use mathlib.Core.List.{List}
-use Prim.Native.Nat.{ℕ, suc, _+_, _-_, _*_, _/_, _%_, _^_, _≤_, _<_}
+use Prim.Native.Nat.{ℕ, zero, suc, _+_, _-_, _*_, _/_, _%_, _^_, min, _≤_, _<_}
 use native.Mathlib.Omega.{arith}
 use lib.Bits.{bitXor}
 use lib.Count.{trailingZeros}
-use lib.Dec.{leb}
-use lib.ListN.{getD, replicate}
+use lib.Dec.{leb, ltb}
+use lib.ListN.{length, getD, set, replicate}
 use lib.Pow.{pow-mono}
+use lib.Seq.{getD-set-other}
+use borrow.Author.Tests.{lt-ltb, ltb-true, ltb-false}
 use Rattle.gf2.specs.Strings.{BitString, _⊕_, bit}
 use Rattle.gf2.specs.Sums.{parity}
 use Rattle.gf2.specs.Digits.{highFirst}
 use Rattle.gf2.specs.Words.{bitAt, tabulate, wordOf}
 use Rattle.gf2.proofs.Bits.{⊕-false, false-⊕, ⊕-comm, ⊕-assoc, and-⊕}
 use Rattle.gf2.proofs.Parities.{parity-cong, parity-ext, parity-⊕}
-use Rattle.gf2.proofs.Tables.{tabulate-cong}
+use Rattle.gf2.proofs.Tables.{getD-tabulate, tabulate-unique, tabulate-cong}
 use Rattle.circuit.specs.declared.Colour.{Colour}
 use Rattle.circuit.specs.Colours.{join}
 use Rattle.circuit.specs.Sum.{at}
@@ -23,9 +25,9 @@ use Rattle.circuit.specs.Polynomial.{Polynomial}
 use Rattle.tables.specs.Packing.{rowOf, rowAt, packedWord, packedRows, tableOf}
 use Rattle.tables.proofs.TableWords.{packedWord-cong, packedWord-xor, packedRows-at, packedRows-cong, tableOf-at}
 use Rattle.slices.specs.Slices.{coefficient}
-use Rattle.totals.specs.Walking.{lastPositions, rowsPlus, rowsNext}
+use Rattle.walks.specs.Walks.{lastPositions, changesOf, rowsPlus, rowsNext}
 use Rattle.slices.proofs.Slicing.{parity-head}
-use Rattle.totals.proofs.Successor.{digits-next, trailing-lt, at-highFirst, parity-turned, parity-upTo}
+use Rattle.walks.proofs.Successor.{digits-next, trailing-lt, at-highFirst, parity-turned, parity-upTo}
 
 rows-plus : (a b : ℕ → ℕ → Bool) (rows table : List ℕ) (k : ℕ) → rows ≡ packedRows a → ((w : ℕ) → w < 6 → getD table (6 * k + w) 0 ≡ packedWord b w)
     → rowsPlus rows table k ≡ packedRows (λ i j. a i j ⊕ b i j)
@@ -100,6 +102,37 @@ module _ (f : Polynomial) (C : Colour) (table : List ℕ) (e : table ≡ tableOf
       before : suc ((n - 6) / 6) ≡ n / 6
       before = omega arith
 
+-- ---- the words of what the steps add
+
+changeAt : ℕ → Polynomial → Colour → ℕ → ℕ
+changeAt m f C p = cond (ltb p (6 * m)) (packedWord (lastPositions m f C (p / 6)) (p % 6)) 0
+
+-- The words below 6 m and the zeros after them are all.
+pub changes-unique : (m : ℕ) (f : Polynomial) (C : Colour) (t : List ℕ) → length t ≡ 102 → ((p : ℕ) → p < 6 * m → getD t p 0 ≡ packedWord (lastPositions m f C (p / 6)) (p % 6))
+    → ((p : ℕ) → 6 * m ≤ p → getD t p 0 ≡ 0) → t ≡ changesOf m f C
+unfolding changesOf changeAt
+changes-unique m f C t l d z = tabulate-unique 102 (changeAt m f C) t 0 l (λ p h. go p (ltb p (6 * m)) refl)
+  where
+    go : (p : ℕ) (b : Bool) → ltb p (6 * m) ≡ b → getD t p 0 ≡ changeAt m f C p
+    go p true e = d p (ltb-true p (6 * m) e) ∙ sym (ap (λ b. cond b (packedWord (lastPositions m f C (p / 6)) (p % 6)) 0) e)
+    go p false e = z p (ltb-false p (6 * m) e) ∙ sym (ap (λ b. cond b (packedWord (lastPositions m f C (p / 6)) (p % 6)) 0) e)
+
+changes-at : (m : ℕ) (f : Polynomial) (C : Colour) (t w : ℕ) → m ≤ 16 → t < m → w < 6 → getD (changesOf m f C) (6 * t + w) 0 ≡ packedWord (lastPositions m f C t) w
+unfolding changesOf changeAt
+changes-at m f C t w h l k =
+    getD-tabulate 102 (changeAt m f C) (6 * t + w) 0 (omega arith)
+    ∙ ap (λ b. cond b (packedWord (lastPositions m f C ((6 * t + w) / 6)) ((6 * t + w) % 6)) 0) (lt-ltb (6 * t + w) (6 * m) (omega arith))
+    ∙ ap₂ (λ (x y : ℕ). packedWord (lastPositions m f C x) y) (omega arith) (omega arith)
+
+-- At first all words are 0, and a word stored at n leaves those after it.
+pub zeros-at-first : (n p : ℕ) → _≡_ {A = ℕ} (getD (replicate n 0) p 0) 0
+zeros-at-first zero p = refl
+zeros-at-first (suc n) zero = refl
+zeros-at-first (suc n) (suc p) = zeros-at-first n p
+
+pub zeros-after : (t s : List ℕ) (n v : ℕ) → s ≡ set t n v → ((p : ℕ) → n ≤ p → getD t p 0 ≡ 0) → (p : ℕ) → n + 1 ≤ p → getD s p 0 ≡ 0
+zeros-after t s n v e z p h = ap (λ (l : List ℕ). getD l p 0) e ∙ getD-set-other t n p v 0 (λ q. omega arith) ∙ z p (omega arith)
+
 -- ---- a slice by its digits
 
 by-digits : (m : ℕ) (f : Polynomial) (C : Colour) (n i j : ℕ)
@@ -131,15 +164,31 @@ coefficient-next k m f C n i j h l =
     g : ℕ → Bool
     g e = f (join C (m - e) i j)
 
+-- ---- as the public calls promise them
+
+all-positions : (m : ℕ) → m ≤ 16 → min m 16 ≡ m
+all-positions m h = omega arith
+
+-- The rows of slice n of at most 16 positions.
+pub rows-known : (m : ℕ) (f : Polynomial) (C : Colour) (n : ℕ) (rows : List ℕ) → m ≤ 16 → rows ≡ packedRows (coefficient (min m 16) f C (highFirst (min m 16) n))
+    → rows ≡ packedRows (coefficient m f C (highFirst m n))
+rows-known m f C n rows h e = e ∙ ap (λ (k : ℕ). packedRows (coefficient k f C (highFirst k n))) (all-positions m h)
+
 -- The rows of the slice p after n.
 pub rows-next : (m : ℕ) (f : Polynomial) (C : Colour) (n p : ℕ) (rows steps : List ℕ) → m ≤ 16 → p ≡ n + 1 → p < 2 ^ m
-    → rows ≡ packedRows (coefficient m f C (highFirst m n))
-    → ((t w : ℕ) → t < m → w < 6 → getD steps (6 * t + w) 0 ≡ packedWord (lastPositions m f C t) w)
+    → rows ≡ packedRows (coefficient m f C (highFirst m n)) → steps ≡ changesOf (min m 16) f C
     → rowsNext rows steps p ≡ packedRows (coefficient m f C (highFirst m p))
-rows-next m f C n p rows steps h q l e d = rw q
-    (rows-plus (coefficient m f C (highFirst m n)) (lastPositions m f C t) rows steps t e (λ w k. d t w (trailing-lt 64 m (n + 1) (omega arith) (omega arith)) k)
+rows-next m f C n p rows steps h q l e d = rw (q, few)
+    (rows-plus (coefficient m f C (highFirst m n)) (lastPositions m f C t) rows steps t e
+    (λ w k. ap (λ (s : List ℕ). getD s (6 * t + w) 0) (d ∙ ap (λ (k : ℕ). changesOf k f C) (all-positions m h)) ∙ changes-at m f C t w h short k)
     ∙ packedRows-cong (λ i j. coefficient m f C (highFirst m n) i j ⊕ lastPositions m f C t i j) (coefficient m f C (highFirst m (n + 1)))
     (λ i j a b. sym (coefficient-next 64 m f C n i j (omega (arith, pow-mono h)) (omega arith))))
   where
     t : ℕ
     t = trailingZeros 64 (n + 1)
+
+    short : trailingZeros 64 (n + 1) < m
+    short = trailing-lt 64 m (n + 1) (omega arith) (omega arith)
+
+    few : min (trailingZeros 64 (n + 1)) 16 ≡ trailingZeros 64 (n + 1)
+    few = omega (arith, trailing-lt 64 m (n + 1) (omega arith) (omega arith))
