@@ -6,12 +6,3 @@ pub mod Bounds
 pub mod OutputString
 pub mod Amplitude
 pub mod Known
-pub mod BitTests
-pub mod Successor
-pub mod SliceWords
-pub mod OutcomeTests
-pub mod EntryChecks
-pub mod SlicesAdded
-pub mod SliceSystem
-pub mod SliceAnswer
-pub mod SliceTotals

@@ -2,5 +2,3 @@ pub mod Slices
 pub mod Rank
 pub mod Totals
 pub mod Known
-pub mod Answers
-pub mod Walking

@@ -1,4 +1,1 @@
-// Sums over the slices of one colour: the slices' totals, from a table built once for a sum.
-pub mod slice;
-pub mod total;
-mod walk;
+// No code: what the slices of a sum are and add up to stands in specs/, and its laws in proofs/.

@@ -24,8 +24,8 @@ use Rattle.circuit.specs.Polynomial.{Polynomial, polynomial}
 use Rattle.tables.specs.Packing.{strings, Tabled}
 use Rattle.slices.specs.Totals.{withStart, areSlices, moderate, moderateCount, amplitudeAfter, amplitudeOver, readoutAfter, readoutOver}
 use Rattle.slices.proofs.Bounds.{amplitudeAfter-bound}
-use Rattle.slices.proofs.OutcomeTests.{abs-fits}
-use Rattle.slices.proofs.SliceTotals.{amplitude-continued, readout-continued}
+use Rattle.totals.proofs.OutcomeTests.{abs-fits}
+use Rattle.totals.proofs.SliceTotals.{amplitude-continued, readout-continued}
 use Rattle.held.specs.Circuit.{Circuit}
 use Rattle.held.specs.Memory.{Long, SoundCircuit}
 use Rattle.forms.specs.Typed.{Asked, amp, part}

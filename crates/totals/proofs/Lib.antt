@@ -1,0 +1,6 @@
+pub mod OutcomeTests
+pub mod EntryChecks
+pub mod SlicesAdded
+pub mod SliceSystem
+pub mod SliceAnswer
+pub mod SliceTotals

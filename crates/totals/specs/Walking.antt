@@ -1,0 +1,24 @@
+-- What some slices add up to. Only the code's own functions promise these.
+use mathlib.Core.Path.{_≡_}
+use mathlib.Core.List.{List}
+use Prim.Native.Nat.{ℕ, _+_, _*_, _^_, _≤_}
+use lib.IntN.{natAbs, _+ℤ_}
+use Rattle.gf2.specs.Sums.{sumBelow}
+use Rattle.circuit.specs.declared.Colour.{Colour}
+use Rattle.circuit.specs.Polynomial.{Polynomial}
+use Rattle.tables.specs.Packing.{tableOf}
+use Rattle.slices.specs.Totals.{tallyBelow}
+use Rattle.totals.specs.declared.answer.Slice.{Slice}
+use Rattle.totals.specs.declared.Sums.{Sums}
+use Rattle.totals.specs.Answers.{answerAt, shareOf}
+
+-- The sums with one slice more.
+unfoldable pub plusSlice : ℕ → Slice → Sums → Sums
+plusSlice m a s = record { signed = s .signed +ℤ a .signed; shares = s .shares + shareOf m a }
+
+-- The sums of `count` slices from slice `from` on, by a table.
+pub record Walked (table : List ℕ) (m from count : ℕ) (r : Sums) : Type 0 where
+  pub signed-bound : natAbs (r .signed) ≤ count * 2 ^ 32
+  pub shares-bound : r .shares ≤ count * 2 ^ 32
+  pub signed-exact : (f : Polynomial) (C : Colour) → table ≡ tableOf C f → r .signed ≡ sumBelow count (λ k. (answerAt m f C (from + k)) .signed)
+  pub shares-exact : (f : Polynomial) (C : Colour) → table ≡ tableOf C f → r .shares ≡ tallyBelow count (λ k. shareOf m (answerAt m f C (from + k)))

@@ -1,0 +1,3 @@
+pub mod BitTests
+pub mod Successor
+pub mod SliceWords
