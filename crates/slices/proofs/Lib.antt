@@ -3,6 +3,5 @@ pub mod Rank
 pub mod Readout
 pub mod Vanishing
 pub mod Bounds
-pub mod OutputString
 pub mod Amplitude
 pub mod Known

@@ -125,7 +125,7 @@ fn with_slices(total: Total, table: [u64; TABLE], m: usize, from: usize, count: 
 {
     match total {
         Total::Closed => total,
-        Total::Amplitude(s) => { Total::Amplitude(totals::amplitude(table, m, from, count, s)) }
+        Total::Amplitude(s) => Total::Amplitude(totals::amplitude(table, m, from, count, s)),
         Total::Readout(t) => Total::Readout(totals::readout(table, m, from, count, t)),
     }
 }

@@ -36,7 +36,7 @@ use Rattle.tables.specs.Packing.{withOutput, rowOf, rowAt, packedRows}
 use Rattle.tables.proofs.TableWords.{rowAt-in, rowAt-lt, length-packedRows, rowsOf-packedRows}
 use Rattle.slices.specs.Slices.{along, coefficient, gamma, firstVector, secondVector, innerSum}
 use Rattle.slices.proofs.Slicing.{length-along, equations, length-equations, length-gamma, innerSum-by-system}
-use Rattle.slices.proofs.OutputString.{coefficient-output}
+use Rattle.totals.proofs.OutputString.{coefficient-output}
 
 -- ---- strings and lists by their places
 
