@@ -46,7 +46,7 @@ packedRows a = tabulate 6 (packedWord a)
 unfoldable pub tableOf : Colour → Polynomial → List ℕ
 tableOf C f = tabulate 102 (λ n. packedWord (λ i j. f (join C (n / 6) i j)) (n % 6))
 
--- All that `slice`, `amplitude` and `readout` of `slices` ask: the table is the one that `table` makes for the gates of a circuit of m
+-- All that `slice`, `amplitude` and `readout` of `totals` ask: the table is the one that `table` makes for the gates of a circuit of m
 -- positions at the output string s, sliced on C.
 pub record Tabled (m : ℕ) (gs : List Gate) (C : Colour) (s : Basis) (table : List ℕ) : Type 0 where
   pub gates : areGates m gs ≡ true
