@@ -1,5 +1,5 @@
 -- How the forms are spelled (Manual 4.2, 4.6, 5), and what the places Line and Form look at (Manual 7.3, 7.4). A line is read as the form that
--- it spells, or refused by 2, 3, 4 or 5: `read-exactly` and `refused-2` to `refused-5` in proofs/Readings say when.
+-- it spells, or refused by 2, 3, 4 or 5: `read-exactly` and `refused-2` to `refused-5` of `lines` say when.
 use Prim.Native.Nat.{ℕ}
 use mathlib.Core.Bool.{Bool, true, false, not, _&&_, _||_}
 use mathlib.Core.List.{List, [], _∷_, _++_}
