@@ -1,10 +1,14 @@
 // The colours and gates of a three-colour circuit.
 ghost use mathlib.Core.Path.{_≡_};
+ghost use Prim.Native.Nat.{min};
 ghost use Rattle.circuit.specs.Colours.{numberOf, colourOf, thirdOf, sameColour};
 ghost use Rattle.circuit.specs.Sum.{isPosition, isGate};
 
-// A colour's indices in a term: its positions 1 to 16, and 0 where the term has none of it.
-pub const INDICES: usize = 17;
+// The most positions that a colour has (Manual 1.1).
+pub const MOST_POSITIONS: usize = 16;
+
+// A colour's indices in a term: its positions, and 0 where the term has none of it.
+pub const INDICES: usize = MOST_POSITIONS + 1;
 
 pub enum Colour {
     Red,
@@ -46,6 +50,16 @@ pub fn colour_of(n: usize) -> Colour
         return Colour::Blue;
     }
     Colour::Green
+}
+
+// m, or 16 where m is more: no circuit has more positions, and no slice's number more digits.
+pub fn positions(m: usize) -> usize
+    ensures { λ r. ⌜ r ≡ min m 16 ⌝ }
+{
+    if MOST_POSITIONS < m {
+        return MOST_POSITIONS;
+    }
+    m
 }
 
 // The third colour beside two others: 3 less both.

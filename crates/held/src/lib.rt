@@ -6,10 +6,8 @@ ghost use Rattle.circuit.specs.Sum.{Basis, areGates};
 ghost use Rattle.held.specs.Circuit.{Circuit, newCircuit, withoutLast, withNewStart};
 ghost use Rattle.held.specs.Memory.{numbersOf, encodeCircuit, Stored, withGate, withCode};
 use circuit::Gate;
+use circuit::MOST_POSITIONS;
 use polynomial::WORDS;
-
-// The positions of the largest circuit.
-const MOST_POSITIONS: usize = 16;
 
 // A string for each colour, as numbers with position 1 the highest digit.
 pub struct Numbers {

@@ -297,13 +297,6 @@ fn in_places(
     in_history(room, held, row)
 }
 
-// No circuit has more than 16 positions.
-fn positions(m: usize) -> usize
-    ensures { λ r. ⌜ r ≡ min m 16 ⌝ }
-{
-    if 16 < m { 16 } else { m }
-}
-
 // The refusal of a line, over all places in turn.
 pub(crate) fn refusal(
     loaded: bool,
@@ -319,7 +312,7 @@ pub(crate) fn refusal(
 {
     let row = row_of(form);
     match row {
-        FormRow::Row(r) => in_places(loaded, summing, positions(m), room, held, line, r),
+        FormRow::Row(r) => in_places(loaded, summing, circuit::positions(m), room, held, line, r),
         FormRow::Refused(e) => e,
     }
 }

@@ -43,13 +43,6 @@ fn digit_at(m: usize, p: usize) -> usize
     m - p
 }
 
-// At most 16: no circuit has more positions, and no slice's number more digits.
-fn capped(k: usize) -> usize
-    ensures { λ r. ⌜ r ≡ min k 16 ⌝ }
-{
-    if 16 < k { 16 } else { k }
-}
-
 // The rows of slice `n`: those of the constant, and of each position whose digit is 1.
 fn rows_of(table: &[u64; TABLE], m: usize, n: usize) -> [u64; WORDS]
     requires { ⌜ m ≤ 16 ⌝ }
@@ -71,7 +64,7 @@ fn rows_of(table: &[u64; TABLE], m: usize, n: usize) -> [u64; WORDS]
 pub fn rows_at(table: &[u64; TABLE], m: usize, n: usize) -> [u64; WORDS]
     ensures { λ r. ⌜ ((f : Polynomial) (C : Colour) → now (table .entry) ≡ tableOf C f → r ≡ packedRows (coefficient (min m 16) f C (highFirst (min m 16) n))) ⌝ }
 {
-    rows_of(table, capped(m), n)
+    rows_of(table, circuit::positions(m), n)
 }
 
 // What a step to the next slice adds: at `t`, the rows of the t + 1 last positions.
@@ -97,12 +90,16 @@ fn changes_of(table: &[u64; TABLE], m: usize) -> [u64; TABLE]
 pub fn changes(table: &[u64; TABLE], m: usize) -> [u64; TABLE]
     ensures { λ r. ⌜ ((f : Polynomial) (C : Colour) → now (table .entry) ≡ tableOf C f → r ≡ changesOf (min m 16) f C) ⌝ }
 {
-    changes_of(table, capped(m))
+    changes_of(table, circuit::positions(m))
 }
 
 // The rows of slice `n` from those of the slice before it.
 pub fn next_rows(rows: [u64; WORDS], steps: &[u64; TABLE], n: usize) -> [u64; WORDS]
     ensures { λ r. ⌜ r ≡ rowsNext rows (now (steps .entry)) n ⌝ }
 {
-    moved(rows, steps, capped(usize::trailing_zeros(n) as usize))
+    moved(
+        rows,
+        steps,
+        circuit::positions(usize::trailing_zeros(n) as usize),
+    )
 }

@@ -6,14 +6,14 @@ use borrow.Author.Needs.{needs}
 use Rattle.walks.proofs.changes.Statement.{statement}
 use Rattle.walks.proofs.changes.Tie as tie
 
-capped-requires : tie.Need-capped-requires
-capped-requires c κs = search needs
+positions-requires : tie.Need-positions-requires
+positions-requires c κs = search needs
 
 changes-of-requires : tie.Need-changes-of-requires
 changes-of-requires c κs = search needs
 
 returns : tie.Need-returns
-returns c f C e = c .changes-of .ensures f C e ∙ ap (λ (k : ℕ). changesOf k f C) (c .before .capped .ensures)
+returns c f C e = c .changes-of .ensures f C e ∙ ap (λ (k : ℕ). changesOf k f C) (c .before .positions .ensures)
 
 pub changes-spec : {M : Type 1} → statement M
-changes-spec = tie.close (tie.spec capped-requires changes-of-requires returns)
+changes-spec = tie.close (tie.spec positions-requires changes-of-requires returns)

@@ -8,11 +8,11 @@ use borrow.Author.Needs.{needs}
 use Rattle.walks.proofs.next_rows.Statement.{statement}
 use Rattle.walks.proofs.next_rows.Tie as tie
 
-cast-capped : tie.Need-cast-capped
-cast-capped c = omega (arith, trailing-le 64 (c .args .n))
+cast-positions : tie.Need-cast-positions
+cast-positions c = omega (arith, trailing-le 64 (c .args .n))
 
-capped-requires : tie.Need-capped-requires
-capped-requires c κs = search needs
+positions-requires : tie.Need-positions-requires
+positions-requires c κs = search needs
 
 moved-requires : tie.Need-moved-requires
 moved-requires c κs = search needs
@@ -20,7 +20,7 @@ moved-requires c κs = search needs
 returns : tie.Need-returns
 returns c =
     let a : _ = c .before .before .args in
-    c .moved .ensures ∙ ap (λ (k : ℕ). rowsPlus (a .rows) (a .steps .now) k) (c .before .capped .ensures)
+    c .moved .ensures ∙ ap (λ (k : ℕ). rowsPlus (a .rows) (a .steps .now) k) (c .before .positions .ensures)
 
 pub next-rows-spec : {M : Type 1} → statement M
-next-rows-spec = tie.close (tie.spec cast-capped capped-requires moved-requires returns)
+next-rows-spec = tie.close (tie.spec cast-positions positions-requires moved-requires returns)
