@@ -10,8 +10,26 @@ ghost use Rattle.polynomial.specs.Words.{wordsOf};
 ghost use Rattle.listing.specs.Cells.{concatBelow, marked, cellRed, cellBlue, cellMask, cellWord, cellTerms};
 use circuit::Colour;
 use circuit::Gate;
+use circuit::INDICES;
+use circuit::MOST_POSITIONS;
 use circuit::Spot;
 use polynomial::WORDS;
+
+// The cells: first those of CCZ terms, then from these numbers on those of red-blue, red-green and blue-green terms.
+const RED_BLUE: usize = 256;
+
+const RED_GREEN: usize = 512;
+
+const BLUE_GREEN: usize = 528;
+
+const CELLS: usize = 544;
+
+const LAST_CELL: usize = CELLS - 1;
+
+// A word's terms with a green position, bits 1 to 16, and the one without, bit 0.
+const GREEN: u32 = 0x1fffe;
+
+const NO_GREEN: u32 = 1;
 
 // What stands at a place of the listing.
 pub enum Entry {
@@ -29,11 +47,11 @@ struct Place {
 fn red_of(n: usize) -> usize
     ensures { λ r. ⌜ r ≡ cellRed n ⌝ }
 {
-    if n < 512 {
-        return n % 256 / 16 + 1;
+    if n < RED_GREEN {
+        return n % RED_BLUE / MOST_POSITIONS + 1;
     }
-    if n < 528 {
-        return n - 511;
+    if n < BLUE_GREEN {
+        return n - RED_GREEN + 1;
     }
     0
 }
@@ -41,26 +59,26 @@ fn red_of(n: usize) -> usize
 fn blue_of(n: usize) -> usize
     ensures { λ r. ⌜ r ≡ cellBlue n ⌝ }
 {
-    if n < 512 {
-        return n % 16 + 1;
+    if n < RED_GREEN {
+        return n % MOST_POSITIONS + 1;
     }
-    if n < 528 {
+    if n < BLUE_GREEN {
         return 0;
     }
-    n - 527
+    n - BLUE_GREEN + 1
 }
 
-// Bits 1 to 16, and bit 0 alone for a red-blue term.
+// The bits of a cell's terms in their word.
 fn mask_of(n: usize) -> u32
     ensures { λ r. ⌜ r ≡ cellMask n ⌝ }
 {
-    if n < 256 {
-        return 131070;
+    if n < RED_BLUE {
+        return GREEN;
     }
-    if n < 512 {
-        return 1;
+    if n < RED_GREEN {
+        return NO_GREEN;
     }
-    131070
+    GREEN
 }
 
 // The terms of cell `n`, a bit for each.
@@ -68,7 +86,7 @@ fn cell(words: &[u32; WORDS], n: usize) -> u32
     requires { ⌜ n < 544 ⌝ }
     ensures { λ r. ⌜ r ≡ cellWord (now (words .entry)) n ⌝ }
 {
-    words[17 * red_of(n) + blue_of(n)] & mask_of(n)
+    words[INDICES * red_of(n) + blue_of(n)] & mask_of(n)
 }
 
 // How many terms there are.
@@ -77,7 +95,7 @@ pub fn count(words: [u32; WORDS]) -> usize
 {
     let mut total: usize = 0;
     let mut n = 0;
-    while n < 544 {
+    while n < CELLS {
         total += u32::count_ones(cell(&words, n)) as usize;
         n += 1;
     }
@@ -91,7 +109,7 @@ fn find(words: &[u32; WORDS], n: usize) -> Place
 {
     let mut left = n;
     let mut at = 0;
-    while at < 543 {
+    while at < LAST_CELL {
         let here = u32::count_ones(cell(words, at)) as usize;
         if left < here {
             return Place { cell: at, left };
@@ -108,7 +126,7 @@ fn select(w: u32, n: usize) -> usize
 {
     let mut left = n;
     let mut k = 0;
-    while k < 17 {
+    while k < INDICES {
         if gf2::bit(w, k) {
             if left == 0 {
                 return k;
@@ -117,7 +135,7 @@ fn select(w: u32, n: usize) -> usize
         }
         k += 1;
     }
-    17
+    INDICES
 }
 
 // The gate that adds a term, by the term's indices.

@@ -112,9 +112,17 @@ module _ (m : ℕ) (rs : List BitString) (a b : BitString) (l : length rs ≡ m)
   -- no solution
   no-solution : solvable m rs a ≡ false → systemSum m (equations rs a) b ≡ pos 0
   unfolding systemSum solvable
-  no-solution n = sum-cong m (λ v. sgn (dot b v) *ℤ allow (offs (equations rs a) v)) (λ v. pos 0)
-      (λ v e. ap (λ x. sgn (dot b v) *ℤ x) (ap allow (offs-is v) ∙ allow-is (a ⊞ times rs v) ∙ ap (λ (x : Bool). pos (2 ^ length (a ⊞ times rs v)) *ℤ pos (cond x 1 0)) (someString-none m (λ w. isZero (a ⊞ times rs w)) n v e) ∙ *ℤ-zero (pos (2 ^ length (a ⊞ times rs v)))) ∙ *ℤ-zero (sgn (dot b v)))
-      ∙ sum-zero m
+  no-solution n = sum-cong m (λ v. sgn (dot b v) *ℤ allow (offs (equations rs a) v)) (λ v. pos 0) each ∙ sum-zero m
+    where
+      none : (v : BitString) → length v ≡ m → allow (offs (equations rs a) v) ≡ pos 0
+      none v e =
+          ap allow (offs-is v)
+          ∙ allow-is (a ⊞ times rs v)
+          ∙ ap (λ (x : Bool). pos (2 ^ length (a ⊞ times rs v)) *ℤ pos (cond x 1 0)) (someString-none m (λ w. isZero (a ⊞ times rs w)) n v e)
+          ∙ *ℤ-zero (pos (2 ^ length (a ⊞ times rs v)))
+
+      each : (v : BitString) → length v ≡ m → sgn (dot b v) *ℤ allow (offs (equations rs a) v) ≡ pos 0
+      each v e = ap (λ x. sgn (dot b v) *ℤ x) (none v e) ∙ *ℤ-zero (sgn (dot b v))
 
   -- outside the row space
   outside : inRowSpace m rs b ≡ false → systemSum m (equations rs a) b ≡ pos 0

@@ -1,4 +1,5 @@
 -- The tests of the code are those of the definition: which kind of cell it is.
+use native.Mathlib.Omega.{arith}
 use borrow.Author.Tests.{lt-ltb, le-ltb}
 use Rattle.listing.specs.Cells.{cellRed}
 use borrow.Author.Needs.{needs}
@@ -12,16 +13,16 @@ returns : tie.Need-returns
 unfolding cellRed
 returns c = rw (lt-ltb _ _ (c .if1 .taken))
 
-sub-result : tie.Need-sub-result
-sub-result c = search needs
+add-result-2 : tie.Need-add-result-2
+add-result-2 c = search needs
 
 returns-2 : tie.Need-returns-2
 unfolding cellRed
-returns-2 c = rw (le-ltb _ _ (c .before .if1 .left), lt-ltb _ _ (c .if2 .taken))
+returns-2 c = rw (le-ltb _ _ (c .before .if1 .left), lt-ltb _ _ (c .if2 .taken)) (omega arith)
 
 returns-3 : tie.Need-returns-3
 unfolding cellRed
 returns-3 c = rw (le-ltb _ _ (c .before .if1 .left), le-ltb _ _ (c .if2 .left))
 
 pub red-of-spec : {M : Type 1} → statement M
-red-of-spec = tie.close (tie.spec add-result returns sub-result returns-2 returns-3)
+red-of-spec = tie.close (tie.spec add-result returns add-result-2 returns-2 returns-3)

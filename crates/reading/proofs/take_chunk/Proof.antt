@@ -39,12 +39,14 @@ same-length-2 c = search needs
 
 returns : tie.Need-returns Inv-loop μ-loop
 returns c =
-    let loop = c .before .before .before .before .loop in
-    let start = c .before .before .before .before .before .before .before .before .before .before .before in (
+    let scanned = c .before .before .before in
+    let loop = scanned .before .loop in
+    let counted = scanned .before .before .before .before in
+    let start = counted .before .before .before .before in (
       λ input f.
           chunk-followed input (start .args .chunk .now) (start .args .reading) _ _ f (loop .from) (loop .session) (loop .pending) (loop .history) (loop .out) _
-          (c .before .before .before .scan .ensures) (loop .inv .2 input (chunk-begun input (start .args .chunk .now) (start .args .reading) _ _ f)) (not-true _ (c .if1 .taken)),
-      (refl, (c .before .before .before .before .before .before .before .one-fewer .ensures, loop .inv .3)),
+          (scanned .scan .ensures) (loop .inv .2 input (chunk-begun input (start .args .chunk .now) (start .args .reading) _ _ f)) (not-true _ (c .if1 .taken)),
+      (refl, (counted .one-fewer .ensures, loop .inv .3)),
     )
 
 take-pending-requires : tie.Need-take-pending-requires Inv-loop μ-loop
@@ -55,21 +57,26 @@ empty-requires c κs = search needs
 
 loop-less : tie.Need-loop-less Inv-loop μ-loop
 loop-less c =
-    let scan = c .before .before .before .before .before .before .before .before .before .before .before .scan in
-    let loop = c .before .before .before .before .before .before .before .before .before .before .before .before .loop in
-    let on = scan-goes-on (c .before .before .before .before .before .before .before .before .before .before .before .before .before .before .before .before .before .before .before .args .chunk .now) (loop .from) (loop .pending) (scan .ensures) (not-false _ (c .before .before .before .before .before .before .before .before .if1 .left)) in
+    let tested = c .before .before .before .before .before .before .before .before in
+    let scanned = tested .before .before .before in
+    let loop = scanned .before .loop in
+    let start = scanned .before .before .before .before .before .before .before .before in
+    let on = scan-goes-on (start .args .chunk .now) (loop .from) (loop .pending) (scanned .scan .ensures) (not-false _ (tested .if1 .left)) in
     omega (arith, on .0, on .1)
 
 loop-again : tie.Need-loop-again Inv-loop μ-loop
 loop-again c =
-    let scan = c .before .before .before .before .before .before .before .before .before .before .before .scan in
-    let loop = c .before .before .before .before .before .before .before .before .before .before .before .before .loop in
-    let taken = c .before .before .before .before .before .take-pending in (
+    let said = c .before .before .before .before .before in
+    let tested = said .before .before .before in
+    let scanned = tested .before .before .before in
+    let loop = scanned .before .loop in
+    let scan = scanned .scan in
+    let taken = said .take-pending in (
       search needs,
       search needs,
       λ input a.
           on-line _ _ _ _ _ _ _ a (loop .from) (loop .session) (loop .pending) (loop .history) (loop .out) (scan .result)
-          (scan .ensures) (loop .inv .2 input a) (not-false _ (c .before .before .before .before .before .before .before .before .if1 .left)) (c .empty .ensures) (taken .ensures .0) (taken .ensures .1 .1),
+          (scan .ensures) (loop .inv .2 input a) (not-false _ (tested .if1 .left)) (c .empty .ensures) (taken .ensures .0) (taken .ensures .1 .1),
       λ failed. taken .ensures .1 .0 (loop .inv .3 failed),
     )
 

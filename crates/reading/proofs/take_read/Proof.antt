@@ -24,11 +24,14 @@ same-length-2 c = search needs
 
 returns : tie.Need-returns
 returns c =
-    let start = c .before .before .before .before .before .before .before .before .before .before .before .before .before in
-    let count = c .before .before .before .before .before .before .before .before .before .count in
+    let gone = c .before .before .before .before in
+    let tested = gone .before .before .before .before in
+    let counted = tested .before in
+    let start = counted .before .before .before .before in
+    let count = counted .count in
     let is = count .ensures .1 ∙ ap (λ (z : ℤ). clamped z (length (start .args .chunk .now))) (toZ-ofZ (start .fits .got)) in
-    let last = c .before .before .before .before .take-last in (
-      λ input f. read-ended (start .args .chunk .now) (start .args .got) (count .ensures .0) is (omega (arith, c .before .before .before .before .before .before .before .before .if1 .taken)) refl refl (last .ensures .0 input f) (last .ensures .1 .1 input f),
+    let last = gone .take-last in (
+      λ input f. read-ended (start .args .chunk .now) (start .args .got) (count .ensures .0) is (omega (arith, tested .if1 .taken)) refl refl (last .ensures .0 input f) (last .ensures .1 .1 input f),
       last .ensures .1 .0,
     )
 
@@ -46,12 +49,15 @@ same-length-4 c = search needs
 
 returns-2 : tie.Need-returns-2
 returns-2 c =
-    let start = c .before .before .before .before .before .before .before .before .before .before .before .before .before in
-    let count = c .before .before .before .before .before .before .before .before .before .count in
+    let gone = c .before .before .before .before in
+    let tested = gone .before .before .before .before in
+    let counted = tested .before in
+    let start = counted .before .before .before .before in
+    let count = counted .count in
     let is = count .ensures .1 ∙ ap (λ (z : ℤ). clamped z (length (start .args .chunk .now))) (toZ-ofZ (start .fits .got)) in
-    let taken = c .before .before .before .before .take-chunk in (
+    let taken = gone .take-chunk in (
       λ input f.
-          read-taken (start .args .chunk .now) (start .args .got) (count .ensures .0) is (λ none. omega (arith, c .before .before .before .before .before .before .before .before .if1 .left)) (search needs) (taken .ensures .1 .0) (taken .ensures .1 .1 .0)
+          read-taken (start .args .chunk .now) (start .args .got) (count .ensures .0) is (λ none. omega (arith, tested .if1 .left)) (search needs) (taken .ensures .1 .0) (taken .ensures .1 .1 .0)
           (taken .ensures .0 input f),
       taken .ensures .1 .1 .1,
     )

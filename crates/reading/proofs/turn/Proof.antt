@@ -25,7 +25,10 @@ same-length-2 : tie.Need-same-length-2
 same-length-2 c = search needs
 
 same-length-3 : tie.Need-same-length-3
-same-length-3 c = let read = c .before .before .before .before .before .before .before .before .before .before .before .before .before in search needs
+same-length-3 c =
+    let taken = c .before .before .before .before .before .before .before .before in
+    let read = taken .before .before .before .before .before in
+    search needs
 
 returns : tie.Need-returns
 returns c =

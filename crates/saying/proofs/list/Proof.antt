@@ -63,7 +63,10 @@ loop-less c = search needs
 
 loop-again : tie.Need-loop-again Inv-loop μ-loop
 loop-again c =
-    let loop = c .before .before .before .before .before .before .before .before .before .before .before .loop in
+    let said = c .before .before in
+    let tested = said .before .before .before .before in
+    let fetched = tested .before .before in
+    let loop = fetched .before .before .before .loop in
     let number : loop .number ≡ suc (loop .number - 1) = omega (arith, loop .inv .2) in
     let next : loop .number + 1 - 1 ≡ loop .number = omega arith in (
       search needs,
@@ -71,15 +74,15 @@ loop-again c =
       omega arith,
       rw next
           (one-listed _ _ _ (loop .number - 1) (loop .number) (loop .inv .3) (loop .inv .4) number
-          (c .before .before .before .before .before .before .before .before .fetch .ensures) (loop .inv .1) (search needs) (loop .inv .0)
-          (c .before .before .before .front .ensures) (c .before .before .say .ensures .0) (c .before .before .say .ensures .1 .1)
-          (c .before .before .before .before .before .before .if1 .left)),
+          (fetched .fetch .ensures) (loop .inv .1) (search needs) (loop .inv .0)
+          (said .before .front .ensures) (said .say .ensures .0) (said .say .ensures .1 .1)
+          (tested .if1 .left)),
       rw next
           (one-into _ _ _ (loop .number - 1) (loop .number) (loop .inv .3) (loop .inv .4) number
-          (c .before .before .before .before .before .before .before .before .fetch .ensures) (loop .inv .1) (search needs) (loop .inv .0)
-          (c .before .before .before .front .ensures) (c .before .before .say .ensures .0) (c .before .before .say .ensures .1 .1)
-          (c .before .before .before .before .before .before .if1 .left)),
-      λ failed. c .before .before .say .ensures .1 .0 (loop .inv .5 failed),
+          (fetched .fetch .ensures) (loop .inv .1) (search needs) (loop .inv .0)
+          (said .before .front .ensures) (said .say .ensures .0) (said .say .ensures .1 .1)
+          (tested .if1 .left)),
+      λ failed. said .say .ensures .1 .0 (loop .inv .5 failed),
     )
 
 same-length-2 : tie.Need-same-length-2 Inv-loop μ-loop

@@ -41,11 +41,13 @@ same-length-3 c = search needs
 
 returns-2 : tie.Need-returns-2
 returns-2 c =
-    let line = c .before .before .before .before .before .before .before .before .before .before .before .before .before .before .before .before .before .line in
-    let said = c .before .before .before .before .before .before .before .say in
-    let is = c .before .before .before .before .before .before .before .before .front .ensures in
-    let some = c .before .before .before .before .before .before .before .before .before .before .before .if1 .left in
-    let listed = c .before .before .list in (
+    let listed = c .before .before .list in
+    let put = c .before .before .before .before .before .before .before in
+    let tested = put .before .before .before .before in
+    let said = put .say in
+    let is = put .before .front .ensures in
+    let some = tested .if1 .left in
+    let line = tested .before .before .before .before .before .before .line in (
       λ p at.
           line-listed p _ _ _ _ at (line .ensures) refl (line .kept .1 .1 .1 .0) some (said .ensures .0) (said .ensures .1 .1) is (said .kept .0) (listed .kept .1 .0)
           (listed .ensures .0),
@@ -65,10 +67,12 @@ same-length-5 c = search needs
 
 returns-3 : tie.Need-returns-3
 returns-3 c =
-    let line = c .before .before .before .before .before .before .before .before .before .before .before .before .before .line in
-    let said = c .before .before .before .say in
-    let is = c .before .before .before .before .front .ensures in
-    let some = c .before .before .before .before .before .before .before .if1 .left in (
+    let put = c .before .before .before in
+    let tested = put .before .before .before .before in
+    let said = put .say in
+    let is = put .before .front .ensures in
+    let some = tested .if1 .left in
+    let line = tested .before .before .before .before .before .before .line in (
       λ p at.
           line-said p _ _ _ _ at (line .ensures) refl (line .kept .1 .1 .1 .0) some (said .ensures .0) (said .ensures .1 .1) is (c .if2 .left) (said .kept .0),
       (

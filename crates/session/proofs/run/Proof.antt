@@ -29,17 +29,21 @@ turn-requires c κs = search needs
 
 loop-less : tie.Need-loop-less Inv-loop μ-loop
 loop-less c =
-    let loop = c .before .before .before .before .before .before .before .before .before .before .before .before .before .loop in
-    let test = c .before .before .before .before .before .before .before .before .before .before .before .before .loop-test in
+    let turned = c .before .before .before .before .before .before in
+    let tested = turned .before .before .before .before .before .before in
+    let loop = tested .before .loop in
+    let test = tested .loop-test in
     let left : 1 ≤ loop .reading .left = omega (arith, ltb-true) in
-    turn-nears (loop .inv .3) (test .taken) left (c .before .before .before .before .before .before .turn .ensures .0)
+    turn-nears (loop .inv .3) (test .taken) left (turned .turn .ensures .0)
 
 loop-again : tie.Need-loop-again Inv-loop μ-loop
 loop-again c =
-    let loop = c .before .before .before .before .before .before .before .before .before .before .before .before .before .loop in
-    let test = c .before .before .before .before .before .before .before .before .before .before .before .before .loop-test in
+    let turned = c .before .before .before .before .before .before in
+    let tested = turned .before .before .before .before .before .before in
+    let loop = tested .before .loop in
+    let test = tested .loop-test in
     let left : 1 ≤ loop .reading .left = omega (arith, ltb-true) in
-    (search needs, search needs, search needs, runs-on (loop .inv .3) (test .taken) left (c .before .before .before .before .before .before .turn .ensures .0))
+    (search needs, search needs, search needs, runs-on (loop .inv .3) (test .taken) left (turned .turn .ensures .0))
 
 same-length : tie.Need-same-length Inv-loop μ-loop
 same-length c = search needs

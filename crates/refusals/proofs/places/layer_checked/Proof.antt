@@ -55,11 +55,13 @@ loop-less c = search needs
 loop-again : tie.Need-loop-again Inv-loop μ-loop
 unfolding allInRange anyOnItself
 loop-again c =
-    let a = c .before .before .before .before .before .before .before .before .before .before .args in
-    let loop = c .before .before .before .before .before .before .before .before .loop in
+    let asked = c .before .before .before .before .before .before in
+    let looped = asked .before .before in
+    let loop = looped .loop in
+    let a = looped .before .before .args in
     let gate = c .before .before .before .before .gate .given in
-    let read = sym (c .before .before .before .before .before .before .layer-gate .ensures) ∙ gate .1 in
-    let next = met-next (now (a .line)) (a .n) (loop .i) (loop .at) _ _ (c .before .before .before .before .before .before .before .loop-test .taken) read in
+    let read = sym (asked .layer-gate .ensures) ∙ gate .1 in
+    let next = met-next (now (a .line)) (a .n) (loop .i) (loop .at) _ _ (asked .before .loop-test .taken) read in
     let checked = c .before .before .gate-checked .ensures in
     let inside : c .before .if1 .inside ≡ (loop .inside && inRange (a .m) (gate .0 .0)) =
     ⊎-elim (λ w. rw (w .0 .taken) (w .1 ∙ checked .0)) (λ w. rw (w .0 .left) (w .1 ∙ w .0 .left)) (c .before .if1 .came) in

@@ -77,12 +77,16 @@ loop-less c = search needs
 
 loop-again : tie.Need-loop-again Inv-loop μ-loop
 loop-again c =
-    let a = c .before .before .before .before .before .before .before .before .before .before .before .before .args in
-    let loop = c .before .before .before .before .before .before .before .before .before .loop in
+    let taken = c .before .before in
+    let met-at = taken .before .before .before in
+    let asked = met-at .before .before in
+    let looped = asked .before .before in
+    let loop = looped .loop in
+    let a = looped .before .before .before .args in
     let l = now (a .line) in
-    let gate = c .before .before .before .before .before .gate .given in
-    let read = sym (c .before .before .before .before .before .before .before .layer-gate .ensures) ∙ gate .1 in
-    let next = met-next l (a .n) (loop .i) (loop .at) _ _ (c .before .before .before .before .before .before .before .before .loop-test .taken) read in
+    let gate = met-at .gate .given in
+    let read = sym (asked .layer-gate .ensures) ∙ gate .1 in
+    let next = met-next l (a .n) (loop .i) (loop .at) _ _ (asked .before .loop-test .taken) read in
     let met = loop .inv .2 in
     let gs = met .0 in
     let g = gate .0 .0 in
@@ -90,7 +94,7 @@ loop-again c =
     let split : gatesMet (a .n) l 6 ≡ gs ++ (g ∷ rest) = met .1 ∙ ap (λ (r : List Gate). gs ++ r) next in
     let count : length (gatesMet (a .n) l 6) ≡ length gs + suc (length rest) = ap length split ∙ length-append gs (g ∷ rest) in (
       omega arith,
-      c .before .before .take-gate .kept .1 .0 ∙ loop .inv .1,
+      taken .take-gate .kept .1 .0 ∙ loop .inv .1,
       (
         gs ++ (g ∷ []),
         split ∙ sym (append-assoc gs (g ∷ []) rest),
@@ -99,8 +103,8 @@ loop-again c =
             (met .2 k is v room)
             (gate-among 16 gs g rest (rw split at v))
             (omega arith)
-            (c .before .before .take-gate .ensures .0)
-            (c .before .before .take-gate .ensures .1),
+            (taken .take-gate .ensures .0)
+            (taken .take-gate .ensures .1),
       ),
     )
 
