@@ -6,7 +6,7 @@ use native.Mathlib.Omega.{arith}
 use Rattle.gf2.proofs.Impossible.{never}
 use Rattle.circuit.specs.declared.Colour.{Colour}
 use Rattle.circuit.specs.declared.Colour.the-variants.{Red, Blue, Green}
-use Rattle.circuit.specs.Colours.{Three, numberOf, colourOf, thirdOf, sameColour, the, first, second, join, put}
+use Rattle.circuit.specs.Colours.{Three, numberOf, colourOf, thirdOf, sameColour, the, first, second, colours, join, put}
 
 pub number-lt : (c : Colour) → numberOf c < 3
 number-lt Red = omega arith
@@ -35,6 +35,19 @@ third-beside Green Blue h = record { less-both = refl; not-first = refl; not-sec
 third-beside Red Red h = never (cc)
 third-beside Blue Blue h = never (cc)
 third-beside Green Green h = never (cc)
+
+-- The other two colours are none but others.
+pub first-other : (C : Colour) → sameColour C (first C colours) ≡ false
+unfolding first colours
+first-other Red = refl
+first-other Blue = refl
+first-other Green = refl
+
+pub second-other : (C : Colour) → sameColour C (second C colours) ≡ false
+unfolding second colours
+second-other Red = refl
+second-other Blue = refl
+second-other Green = refl
 
 -- What a colour has after something was put: that thing, where it was put for the colour itself.
 pub the-put : {A : Type 0} (C D : Colour) (z : A) (x : Three A) → the C (put D z x) ≡ cond (sameColour C D) z (the C x)

@@ -48,6 +48,10 @@ second Red x = x .green
 second Blue x = x .green
 second Green x = x .blue
 
+-- The colours themselves: `first C colours` is the first of the other two, `second C colours` the second.
+unfoldable pub colours : Three Colour
+colours = record { red = Red; blue = Blue; green = Green }
+
 -- z for the colour, u and v for the other two in order.
 unfoldable pub join : {A : Type 0} → Colour → A → A → A → Three A
 join Red z u v = record { red = z; blue = u; green = v }

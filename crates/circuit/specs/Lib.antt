@@ -1,3 +1,4 @@
 pub mod Colours
 pub mod Sum
 pub mod Polynomial
+pub mod Holding

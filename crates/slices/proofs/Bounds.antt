@@ -1,41 +1,41 @@
--- How large inner sums, totals and readout counts can be.
+-- How large inner sums, totals, readout counts and the counts of one colour read can be.
 use mathlib.Core.Path.{_≡_, sym, _∙_, ap, subst}
 use mathlib.Core.Bool.{Bool, true, false, cond}
-use Prim.Native.Nat.{ℕ, zero, suc, _+_, _-_, _*_, _^_, _≤_}
+use Prim.Native.Nat.{ℕ, zero, suc, _-_, _*_, _^_, _≤_}
 use native.Mathlib.Nat.{mul-one}
 use native.Mathlib.Omega.{arith}
-use lib.Pow.{pow-add, pow-mono}
-use lib.IntN.{ℤ, natAbs, _*ℤ_}
-use Rattle.gf2.specs.Strings.{BitString, _⊕_, dot}
+use lib.Pow.{pow-mono}
+use lib.IntN.{ℤ, pos, natAbs, _*ℤ_}
+use Rattle.gf2.specs.Strings.{BitString, _⊕_, _⊞_, dot, isZero}
 use Rattle.gf2.specs.Sums.{sum, sgn}
 use Rattle.gf2.specs.Digits.{highFirst}
 use Rattle.gf2.proofs.Bounds.{sgn-abs, neg-abs, sum-bound, sumBelow-bound}
 use Rattle.gf2.proofs.Integers.{one-*ℤ, negone-*ℤ}
 use Rattle.circuit.specs.declared.Colour.{Colour}
-use Rattle.circuit.specs.Colours.{the, first, second, join}
+use Rattle.circuit.specs.Colours.{sameColour, the, first, second, colours, join}
 use Rattle.circuit.specs.Sum.{Basis}
 use Rattle.circuit.specs.Polynomial.{Polynomial, value}
 use Rattle.slices.specs.Slices.{gamma, innerSum}
-use Rattle.slices.specs.Rank.{rank}
+use Rattle.slices.specs.Rank.{tally, rank}
 use Rattle.slices.specs.Totals.{isNought, signedPart, amplitudeAfter, share, tallyBelow, readoutAfter, readoutCount}
+use Rattle.slices.specs.OneColour.{leftOver, settles, oneCount, oneShare, oneAfter}
+use Rattle.slices.proofs.Rank.{tally-sum, pow-twice, pow-thrice}
 
 -- ---- inner sums
+
+-- as many as the pairs of strings
+pairs : (m : ℕ) → 2 ^ m * (2 ^ m * 1) ≡ 2 ^ (2 * m)
+pairs m = ap (λ (x : ℕ). 2 ^ m * x) (mul-one (2 ^ m)) ∙ sym (pow-twice m)
 
 pub innerSum-bound : (m : ℕ) (f : Polynomial) (C : Colour) (X Y z : BitString) → natAbs (innerSum m f C X Y z) ≤ 2 ^ (2 * m)
 unfolding innerSum
 innerSum-bound m f C X Y z =
-    subst (λ (n : ℕ). natAbs (innerSum m f C X Y z) ≤ n) (twice m)
+    subst (λ (n : ℕ). natAbs (innerSum m f C X Y z) ≤ n) (pairs m)
     (sum-bound m (2 ^ m * 1) (λ u. sum m (λ v. summand u v))
     (λ u. sum-bound m 1 (summand u) (λ v. omega (arith, sgn-abs (value m f (join C z u v) ⊕ (dot X u ⊕ dot Y v))))))
   where
     summand : BitString → BitString → ℤ
     summand u v = sgn (value m f (join C z u v) ⊕ (dot X u ⊕ dot Y v))
-
-    twice : (m : ℕ) → 2 ^ m * (2 ^ m * 1) ≡ 2 ^ (2 * m)
-    twice m = ap (λ (x : ℕ). 2 ^ m * x) (mul-one (2 ^ m)) ∙ sym (pow-add 2 m m) ∙ ap (λ (e : ℕ). 2 ^ e) (two m)
-      where
-        two : (m : ℕ) → m + m ≡ 2 * m
-        two m = omega arith
 
 -- A sign changes nothing.
 pub signed-abs : (b : Bool) (x : ℤ) → natAbs (sgn b *ℤ x) ≡ natAbs x
@@ -77,7 +77,39 @@ readoutAfter-bound m f C X Y w =
 pub readoutCount-bound : (m : ℕ) (f : Polynomial) (C : Colour) (X Y : BitString) → readoutCount m f C X Y ≤ 2 ^ (3 * m)
 unfolding readoutCount
 readoutCount-bound m f C X Y =
-    subst (λ (n : ℕ). readoutAfter m f C X Y (2 ^ m) ≤ n) (sym (pow-add 2 m (2 * m)) ∙ ap (λ (e : ℕ). 2 ^ e) (three m)) (readoutAfter-bound m f C X Y (2 ^ m))
+    subst (λ (n : ℕ). readoutAfter m f C X Y (2 ^ m) ≤ n) (sym (pow-thrice m)) (readoutAfter-bound m f C X Y (2 ^ m))
+
+-- ---- counts of one colour read
+
+settles-bound : (m : ℕ) (f : Polynomial) (C : Colour) (X u v : BitString) → settles m f C X u v ≤ 1
+unfolding settles
+settles-bound m f C X u v = go (isZero (leftOver m f C u v ⊞ X))
   where
-    three : (m : ℕ) → m + 2 * m ≡ 3 * m
-    three m = omega arith
+    go : (b : Bool) → cond b 1 0 ≤ 1
+    go true = omega arith
+    go false = omega arith
+
+tally-bound : (m b : ℕ) (f : BitString → ℕ) → ((w : BitString) → f w ≤ b) → tally m f ≤ 2 ^ m * b
+tally-bound m b f h = subst (λ (x : ℤ). natAbs x ≤ 2 ^ m * b) (tally-sum m f) (sum-bound m b (λ w. pos (f w)) h)
+
+-- A slice adds at most 2^m: one for each string of the colour that is neither read nor sliced.
+pub oneShare-bound : (m : ℕ) (f : Polynomial) (C D : Colour) (X z : BitString) → oneShare m f C D X z ≤ 2 ^ m
+unfolding oneShare
+oneShare-bound m f C D X z = go (sameColour D (first C colours))
+  where
+    go : (b : Bool) → cond b (tally m (λ v. settles m f C X z v)) (tally m (λ u. settles m f C X u z)) ≤ 2 ^ m
+    go true = omega (arith, tally-bound m 1 (λ v. settles m f C X z v) (λ v. settles-bound m f C X z v))
+    go false = omega (arith, tally-bound m 1 (λ u. settles m f C X u z) (λ u. settles-bound m f C X u z))
+
+-- The count after w slices is at most w · 2^m.
+pub oneAfter-bound : (m : ℕ) (f : Polynomial) (C D : Colour) (X : BitString) (w : ℕ) → oneAfter m f C D X w ≤ w * 2 ^ m
+unfolding oneAfter
+oneAfter-bound m f C D X w =
+    tallyBelow-bound w (2 ^ m) (λ n. oneShare m f C D X (highFirst m n)) (λ n. oneShare-bound m f C D X (highFirst m n))
+
+-- N is at most 2^(2m).
+pub oneCount-bound : (m : ℕ) (f : Polynomial) (C : Colour) (X : BitString) → oneCount m f C X ≤ 2 ^ (2 * m)
+unfolding oneCount
+oneCount-bound m f C X =
+    subst (λ (n : ℕ). oneCount m f C X ≤ n) (pairs m)
+    (tally-bound m (2 ^ m * 1) (λ u. tally m (λ v. settles m f C X u v)) (λ u. tally-bound m 1 (λ v. settles m f C X u v) (settles-bound m f C X u)))

@@ -4,4 +4,7 @@ pub mod Readout
 pub mod Vanishing
 pub mod Bounds
 pub mod Amplitude
+pub mod OneColour
+pub mod OneCount
+pub mod OneByInner
 pub mod Known

@@ -16,7 +16,7 @@ use Rattle.gf2.specs.Strings.{BitString, _⊕_, _⊞_, dot, bit, isZero}
 use Rattle.gf2.specs.Sums.{sum, sgn}
 use Rattle.gf2.proofs.Integers.{*ℤ-assoc, one-*ℤ}
 use Rattle.gf2.proofs.Bits.{false-⊕, sgn-⊕}
-use Rattle.gf2.proofs.Sums.{sum-ext, sum-mul, sum-cong}
+use Rattle.gf2.proofs.Sums.{sum-cong, sum-ext, sum-mul, sum-const, sum-⊞}
 use Rattle.gf2.proofs.Parseval.{double-pow}
 use Rattle.circuit.specs.declared.Colour.{Colour}
 use Rattle.circuit.specs.Polynomial.{Polynomial}
@@ -108,6 +108,17 @@ pub tally-cong : (m : ℕ) (f g : BitString → ℕ) → ((w : BitString) → le
 tally-cong m f g h =
     ap natAbs (sym (tally-sum m f) ∙ sum-cong m (λ w. pos (f w)) (λ w. pos (g w)) (λ w e. ap pos (h w e)) ∙ tally-sum m g)
 
+-- One string added to all of them changes nothing.
+pub tally-⊞ : (m : ℕ) (a : BitString) (f : BitString → ℕ) → length a ≤ m → tally m (λ v. f (v ⊞ a)) ≡ tally m f
+tally-⊞ m a f h = ap natAbs (sym (tally-sum m (λ v. f (v ⊞ a))) ∙ sum-⊞ m a (λ v. pos (f v)) h ∙ tally-sum m f)
+
+pub tally-mul : (m c : ℕ) (f : BitString → ℕ) → tally m (λ w. c * f w) ≡ c * tally m f
+tally-mul m c f =
+    ap natAbs (sym (tally-sum m (λ w. c * f w)) ∙ sum-mul m (pos c) (λ w. pos (f w)) ∙ ap (λ x. pos c *ℤ x) (tally-sum m f))
+
+pub tally-const : (m c : ℕ) → tally m (λ w. c) ≡ c * 2 ^ m
+tally-const m c = ap natAbs (sym (tally-sum m (λ w. c)) ∙ sum-const m (pos c))
+
 pub plains-equations : (rs : List BitString) (a v : BitString) → offs (plains (equations rs a)) v ≡ times rs v
 unfolding plains plain equations offs off times
 plains-equations [] a v = refl
@@ -166,6 +177,10 @@ unfolding sizeValue sgn
 sizes (gone k p q) = (k, p, q, one-*ℤ (pos (2 ^ k)), inl refl)
 sizes (kept s k p q) = (k, p, q, one-*ℤ (pos (2 ^ k)), inr (s, refl))
 
+-- equal multiples of a power of two
+pub pow-cancel : (k x y : ℕ) → 2 ^ k * x ≡ 2 ^ k * y → x ≡ y
+pow-cancel k x y e = sym (mul-div-cancel-left x (pow-pos k)) ∙ ap (λ (n : ℕ). n / 2 ^ k) e ∙ mul-div-cancel-left y (pow-pos k)
+
 -- the number of strings taken to zero is a signedPower of two, and systemSum has that size
 pub systemSum-size : (m : ℕ) (rs : List BitString) (a b : BitString) → length rs ≡ m → Fits m rs → length b ≤ m
     → (e : ℕ) × (e ≤ m) × (kernelSize m rs ≡ 2 ^ e) × IsPower (m + e) (systemSum m (equations rs a) b)
@@ -188,13 +203,25 @@ systemSum-size m rs a b l h hb = go (sizes (alike m m (equations rs a) b (omega 
         total = ap (λ (n : ℕ). 2 ^ n * kernelSize m rs) (sym l) ∙ ap natAbs (sym (systemSum-kernelSize m rs a) ∙ plain-is ∙ t .3) ∙ ap (λ (n : ℕ). 2 ^ n) k-is ∙ pow-add 2 m (t .0 - m)
 
         power-of : kernelSize m rs ≡ 2 ^ (t .0 - m)
-        power-of = sym (mul-div-cancel-left (kernelSize m rs) (pow-pos m)) ∙ ap (λ (n : ℕ). n / 2 ^ m) total ∙ mul-div-cancel-left (2 ^ (t .0 - m)) (pow-pos m)
+        power-of = pow-cancel m (kernelSize m rs) (2 ^ (t .0 - m)) total
 
 pub pow-inj : (i j : ℕ) → 2 ^ i ≡ 2 ^ j → i ≡ j
 pow-inj zero zero h = refl
 pow-inj zero (suc j) h = absurd (omega arith)
 pow-inj (suc i) zero h = absurd (omega arith)
 pow-inj (suc i) (suc j) h = ap suc (pow-inj i j (omega arith))
+
+pub pow-twice : (m : ℕ) → 2 ^ (2 * m) ≡ 2 ^ m * 2 ^ m
+pow-twice m = ap (λ (n : ℕ). 2 ^ n) (two m) ∙ pow-add 2 m m
+  where
+    two : (m : ℕ) → 2 * m ≡ m + m
+    two m = omega arith
+
+pub pow-thrice : (m : ℕ) → 2 ^ (3 * m) ≡ 2 ^ m * 2 ^ (2 * m)
+pow-thrice m = ap (λ (n : ℕ). 2 ^ n) (three m) ∙ pow-add 2 m (2 * m)
+  where
+    three : (m : ℕ) → 3 * m ≡ m + 2 * m
+    three m = omega arith
 
 exponent-pow : (m e : ℕ) → e ≤ m → exponent m (2 ^ e) ≡ e
 unfolding exponent

@@ -3,8 +3,7 @@ use mathlib.Core.Path.{_≡_, refl, sym, _∙_, ap, ap₂, subst}
 use mathlib.Core.Logic.{inl, inr}
 use mathlib.Core.Bool.{Bool, true, false, cond}
 use mathlib.Core.List.{List}
-use Prim.Native.Nat.{ℕ, zero, suc, _+_, _-_, _*_, _/_, _^_, _≤_, _<_}
-use native.Mathlib.Nat.{mul-div-cancel-left}
+use Prim.Native.Nat.{ℕ, zero, suc, _+_, _-_, _*_, _^_, _≤_, _<_}
 use native.Mathlib.Omega.{arith}
 use lib.ListN.{length}
 use lib.Pow.{pow-pos, pow-add}
@@ -27,13 +26,14 @@ use Rattle.slices.specs.Slices.{gamma, innerSum}
 use Rattle.slices.specs.Rank.{tally, rank}
 use Rattle.slices.specs.Totals.{isNought, share, tallyBelow, readoutAfter, readoutCount}
 use Rattle.slices.proofs.Slicing.{signedSum-by-slices}
-use Rattle.slices.proofs.Rank.{tally-sum, IsPower, rank-le, innerSum-size, tally-cong}
+use Rattle.slices.proofs.Rank.{tally-sum, tally-cong, IsPower, rank-le, innerSum-size, pow-cancel, pow-twice, pow-thrice}
 
 -- The readout count as a sum over strings.
-unfoldable readoutTally : ℕ → Polynomial → Colour → BitString → BitString → ℕ
+unfoldable pub readoutTally : ℕ → Polynomial → Colour → BitString → BitString → ℕ
 readoutTally m f C X Y = tally m (share m f C X Y)
 
-sq-signed : (s : Bool) (x : ℤ) → square (sgn s *ℤ x) ≡ square x
+-- a square has no sign
+pub sq-signed : (s : Bool) (x : ℤ) → square (sgn s *ℤ x) ≡ square x
 unfolding square sgn
 sq-signed false x = ap (λ y. y *ℤ y) (one-*ℤ x)
 sq-signed true x = ap (λ y. y *ℤ y) (negone-*ℤ x) ∙ simp ring
@@ -84,10 +84,7 @@ readoutTally-squares C m gs X Y v hX hY = sym (
     ∙ parseval m (innerSum m (polynomial gs) C X Y)
     ∙ ap (λ x. pos (2 ^ m) *ℤ x) (squares C m (polynomial gs) X Y hX hY)
     ∙ sym (*ℤ-assoc (pos (2 ^ m)) (pos (2 ^ (2 * m))) (pos (readoutTally m (polynomial gs) C X Y)))
-    ∙ ap (λ (n : ℕ). pos n *ℤ pos (readoutTally m (polynomial gs) C X Y)) (sym (pow-add 2 m (2 * m)) ∙ ap (λ (n : ℕ). 2 ^ n) (three m)))
-  where
-    three : (m : ℕ) → m + 2 * m ≡ 3 * m
-    three m = omega arith
+    ∙ ap (λ (n : ℕ). pos n *ℤ pos (readoutTally m (polynomial gs) C X Y)) (sym (pow-thrice m)))
 
 parseval₂ : (m : ℕ) (g : BitString → BitString → ℤ) → sum m (λ X. sum m (λ Y. square (walsh m (λ u. walsh m (g u) Y) X))) ≡ pos (2 ^ m) *ℤ (pos (2 ^ m) *ℤ sum m (λ u. sum m (λ v. square (g u v))))
 parseval₂ m g =
@@ -100,10 +97,10 @@ parseval₂ m g =
     ∙ sum-mul m (pos (2 ^ m)) (λ u. sum m (λ v. square (g u v))))
 
 -- the sign of the polynomial at a string
-unfoldable signAt : ℕ → Polynomial → Colour → BitString → BitString → BitString → ℤ
+unfoldable pub signAt : ℕ → Polynomial → Colour → BitString → BitString → BitString → ℤ
 signAt m f C z u v = sgn (value m f (join C z u v))
 
-innerSum-walsh : (C : Colour) (m : ℕ) (f : Polynomial) (X Y z : BitString) → innerSum m f C X Y z ≡ walsh m (λ u. walsh m (signAt m f C z u) Y) X
+pub innerSum-walsh : (C : Colour) (m : ℕ) (f : Polynomial) (X Y z : BitString) → innerSum m f C X Y z ≡ walsh m (λ u. walsh m (signAt m f C z u) Y) X
 unfolding innerSum walsh signAt
 innerSum-walsh C m f X Y z =
     sum-ext m (λ u. sum m (λ v. sgn (value m f (join C z u v) ⊕ (dot X u ⊕ dot Y v)))) (λ u. sgn (dot X u) *ℤ sum m (λ v. sgn (dot Y v) *ℤ sgn (value m f (join C z u v))))
@@ -134,9 +131,12 @@ slice-total C m f z =
 tally₂-sum : (m : ℕ) (f : BitString → BitString → ℕ) → sum m (λ X. sum m (λ Y. pos (f X Y))) ≡ pos (tally m (λ X. tally m (λ Y. f X Y)))
 tally₂-sum m f = sum-ext m (λ X. sum m (λ Y. pos (f X Y))) (λ X. pos (tally m (λ Y. f X Y))) (λ X. tally-sum m (λ Y. f X Y)) ∙ tally-sum m (λ X. tally m (λ Y. f X Y))
 
+-- Two tallies change places.
+pub tally-swap : (m : ℕ) (f : BitString → BitString → ℕ) → tally m (λ u. tally m (λ v. f u v)) ≡ tally m (λ v. tally m (λ u. f u v))
+tally-swap m f = ap natAbs (sym (tally₂-sum m f) ∙ sum-swap m m (λ u v. pos (f u v)) ∙ tally₂-sum m (λ v u. f u v))
+
 readoutTally-total : (C : Colour) (m : ℕ) (f : Polynomial) → tally m (λ X. tally m (λ Y. readoutTally m f C X Y)) ≡ 2 ^ (3 * m)
-readoutTally-total C m f =
-    sym (mul-div-cancel-left T (pow-pos (2 * m))) ∙ ap (λ (n : ℕ). n / 2 ^ (2 * m)) (ap natAbs scaled) ∙ mul-div-cancel-left (2 ^ (3 * m)) (pow-pos (2 * m))
+readoutTally-total C m f = pow-cancel (2 * m) T (2 ^ (3 * m)) (ap natAbs scaled)
   where
     T : ℕ
     T = tally m (λ X. tally m (λ Y. readoutTally m f C X Y))
@@ -144,17 +144,8 @@ readoutTally-total C m f =
     powers : (p : ℕ) → p * (p * (1 * p * p)) * p ≡ p * p * (p * (p * p))
     powers p = omega arith
 
-    twice : 2 ^ (2 * m) ≡ 2 ^ m * 2 ^ m
-    twice = ap (λ (n : ℕ). 2 ^ n) (two m) ∙ pow-add 2 m m
-      where
-        two : (m : ℕ) → 2 * m ≡ m + m
-        two m = omega arith
-
     thrice : 2 ^ (3 * m) ≡ 2 ^ m * (2 ^ m * 2 ^ m)
-    thrice = ap (λ (n : ℕ). 2 ^ n) (three m) ∙ pow-add 2 m (m + m) ∙ ap (λ (n : ℕ). 2 ^ m * n) (pow-add 2 m m)
-      where
-        three : (m : ℕ) → 3 * m ≡ m + (m + m)
-        three m = omega arith
+    thrice = pow-thrice m ∙ ap (λ (n : ℕ). 2 ^ m * n) (pow-twice m)
 
     scaled : pos (2 ^ (2 * m) * T) ≡ pos (2 ^ (2 * m) * 2 ^ (3 * m))
     scaled =
@@ -167,7 +158,7 @@ readoutTally-total C m f =
         ∙ sum-swap m m (λ X z. sum m (λ Y. square (innerSum m f C X Y z)))
         ∙ sum-ext m (λ z. sum m (λ X. sum m (λ Y. square (innerSum m f C X Y z)))) (λ z. pos (2 ^ m * (2 ^ m * (1 * 2 ^ m * 2 ^ m)))) (slice-total C m f)
         ∙ sum-const m (pos (2 ^ m * (2 ^ m * (1 * 2 ^ m * 2 ^ m))))
-        ∙ ap pos (powers (2 ^ m) ∙ ap₂ (λ (a b : ℕ). a * b) (sym twice) (sym thrice))
+        ∙ ap pos (powers (2 ^ m) ∙ ap₂ (λ (a b : ℕ). a * b) (sym (pow-twice m)) (sym thrice))
 
 -- ---- by the numbers of the slices
 
@@ -176,11 +167,15 @@ unfolding sumBelow tallyBelow
 tallyBelow-sum zero f = refl
 tallyBelow-sum (suc n) f = ap (λ x. x +ℤ pos (f n)) (tallyBelow-sum n f) ∙ pos-+ℤ-pos (tallyBelow n f) (f n)
 
+-- Over the numbers of all 2^m slices, or over their strings.
+pub tally-highFirst : (m : ℕ) (f : BitString → ℕ) → tallyBelow (2 ^ m) (λ n. f (highFirst m n)) ≡ tally m f
+tally-highFirst m f =
+    ap natAbs (sym (tallyBelow-sum (2 ^ m) (λ n. f (highFirst m n))) ∙ sum-highFirst m (λ z. pos (f z)) ∙ tally-sum m f)
+
 -- The readout count is the sum over all strings of the colour.
-count-is-tally : (m : ℕ) (f : Polynomial) (C : Colour) (X Y : BitString) → readoutCount m f C X Y ≡ readoutTally m f C X Y
+pub count-is-tally : (m : ℕ) (f : Polynomial) (C : Colour) (X Y : BitString) → readoutCount m f C X Y ≡ readoutTally m f C X Y
 unfolding readoutCount readoutAfter readoutTally
-count-is-tally m f C X Y =
-    ap natAbs (sym (tallyBelow-sum (2 ^ m) (λ n. share m f C X Y (highFirst m n))) ∙ sum-highFirst m (λ z. pos (share m f C X Y z)) ∙ tally-sum m (share m f C X Y))
+count-is-tally m f C X Y = tally-highFirst m (share m f C X Y)
 
 -- 2^(3m) · T is the sum of S(s)² over the 2^m strings of C beside X and Y.
 pub readout-squares :

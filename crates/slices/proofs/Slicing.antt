@@ -75,7 +75,7 @@ bits-dot (suc n) [] a h = absurd (omega arith)
 bits-dot (suc n) (x ∷ u) a h = parity-head n (λ i. bit i (x ∷ u) && a (suc i)) ∙ ap (λ w. (x && a 1) ⊕ w) (bits-dot n u (λ i. a (suc i)) (omega arith))
 
 -- a sum over the positions of one colour, the constant taken out
-positions-dot : (m : ℕ) (u : BitString) (a : ℕ → Bool) → length u ≡ m → parity (suc m) (λ i. at i u && a i) ≡ a 0 ⊕ dot u (along m a)
+pub positions-dot : (m : ℕ) (u : BitString) (a : ℕ → Bool) → length u ≡ m → parity (suc m) (λ i. at i u && a i) ≡ a 0 ⊕ dot u (along m a)
 unfolding at bit
 positions-dot m u a h = parity-head m (λ i. at i u && a i) ∙ ap (λ w. a 0 ⊕ w) (bits-dot m u a h)
 
@@ -89,10 +89,11 @@ unfolding along times
 times-along zero r v = refl
 times-along (suc n) r v = ap (λ (w : BitString). dot (r 1) v ∷ w) (times-along n (λ i. r (suc i)) v)
 
-along-ext : (n : ℕ) (a b : ℕ → Bool) → ((i : ℕ) → a i ≡ b i) → along n a ≡ along n b
+-- two lists are the same where their entries at the positions are, whatever there is at index 0
+pub along-ext : {A : Type 0} (n : ℕ) (a b : ℕ → A) → ((i : ℕ) → a (suc i) ≡ b (suc i)) → along n a ≡ along n b
 unfolding along
 along-ext zero a b h = refl
-along-ext (suc n) a b h = ap₂ _∷_ (h 1) (along-ext n (λ i. a (suc i)) (λ i. b (suc i)) (λ i. h (suc i)))
+along-ext (suc n) a b h = ap₂ _∷_ (h 0) (along-ext n (λ i. a (suc i)) (λ i. b (suc i)) (λ i. h (suc i)))
 
 -- the value by the entries
 value-by-coefficients : (C : Colour) (m : ℕ) (f : Polynomial) (z u v : BitString) → value m f (join C z u v) ≡ parity (suc m) (λ i. at i u && parity (suc m) (λ j. at j v && coefficient m f C z i j))
@@ -130,7 +131,7 @@ unfolding gamma
 value-by-gamma C m f z u v hu hv = value-by-coefficients C m f z u v
     ∙ positions-dot m u (λ i. parity (suc m) (λ j. at j v && e i j)) hu
     ∙ ap₂ (λ (x : Bool) (y : BitString). x ⊕ dot u y) (row 0)
-    (along-ext m (λ i. parity (suc m) (λ j. at j v && e i j)) (λ i. e i 0 ⊕ dot (along m (λ j. e i j)) v) row
+    (along-ext m (λ i. parity (suc m) (λ j. at j v && e i j)) (λ i. e i 0 ⊕ dot (along m (λ j. e i j)) v) (λ i. row (suc i))
     ∙ along-⊞ m (λ i. e i 0) (λ i. dot (along m (λ j. e i j)) v)
     ∙ ap (λ (y : BitString). along m (λ i. e i 0) ⊞ y) (sym (times-along m (λ i. along m (λ j. e i j)) v)))
   where

@@ -51,7 +51,7 @@ someString-one (suc m) p h = go (someString-one m (λ w. p (false ∷ w))) (some
     go f g false e true q h = let t = g q in (true ∷ t .0, ap suc (t .1), t .2)
     go f g false e false q h = absurd (false≢true h)
 
-⊞-comm : (a b : BitString) → a ⊞ b ≡ b ⊞ a
+pub ⊞-comm : (a b : BitString) → a ⊞ b ≡ b ⊞ a
 unfolding _⊞_
 ⊞-comm [] b = sym (⊞-nil b)
 ⊞-comm (x ∷ a) [] = refl

@@ -5,17 +5,20 @@ use Prim.Native.Nat.{ℕ}
 use lib.IntN.{ℤ, pos, negsuc}
 use Rattle.gf2.specs.Strings.{BitString}
 use Rattle.circuit.specs.declared.Colour.{Colour}
-use Rattle.circuit.specs.declared.Colour.the-variants.{Red, Blue}
+use Rattle.circuit.specs.declared.Colour.the-variants.{Red, Blue, Green}
 use Rattle.circuit.specs.declared.Gate.{Gate}
 use Rattle.circuit.specs.declared.Gate.the-variants.{Ccz, Cz, Cnot}
 use Rattle.circuit.specs.Sum.{signedSum}
 use Rattle.circuit.specs.Polynomial.{polynomial}
 use Rattle.slices.specs.Totals.{readoutCount}
+use Rattle.slices.specs.OneColour.{oneCount}
 
--- What is asked of a circuit: the signed sum at an output string, or the readout count of an unread colour beside two strings.
+-- What is asked of a circuit: the signed sum at an output string, the readout count of an unread colour beside two strings, or the count of the
+-- one colour that is read.
 pub data Asked : Type 0 where
   sumAt : BitString → BitString → BitString → Asked
   countBeside : Colour → BitString → BitString → Asked
+  countOf : Colour → BitString → Asked
 
 pub record Known : Type 0 where
   pub m : ℕ
@@ -26,6 +29,7 @@ pub record Known : Type 0 where
 unfoldable pub answered : ℕ → List Gate → Asked → ℤ
 answered m gs (sumAt r b g) = signedSum m gs (record { red = r; blue = b; green = g })
 answered m gs (countBeside C X Y) = pos (readoutCount m (polynomial gs) C X Y)
+answered m gs (countOf C X) = pos (oneCount m (polynomial gs) C X)
 
 abbrev o : Bool
 o = false
@@ -57,6 +61,8 @@ knownTable =
     ∷ record { m = 1; gates = oneCcz; asked = countBeside Red (o ∷ []) (i ∷ []); number = pos 1 }
     ∷ record { m = 1; gates = oneCcz; asked = countBeside Red (i ∷ []) (o ∷ []); number = pos 1 }
     ∷ record { m = 1; gates = oneCcz; asked = countBeside Red (i ∷ []) (i ∷ []); number = pos 1 }
+    ∷ record { m = 1; gates = oneCcz; asked = countOf Green (o ∷ []); number = pos 3 }
+    ∷ record { m = 1; gates = oneCcz; asked = countOf Green (i ∷ []); number = pos 1 }
     ∷ record { m = 1; gates = Ccz 1 1 1 ∷ oneCcz; asked = sumAt (o ∷ []) (o ∷ []) (o ∷ []); number = pos 8 }
     ∷ record { m = 1; gates = oneCz; asked = sumAt (i ∷ []) (i ∷ []) (o ∷ []); number = negsuc 3 }
     ∷ record { m = 2; gates = cczThenCnot; asked = sumAt (o ∷ o ∷ []) (o ∷ o ∷ []) (o ∷ o ∷ []); number = pos 48 }
