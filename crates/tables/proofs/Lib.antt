@@ -1,2 +1,3 @@
 pub mod TableWords
 pub mod OutputWords
+pub mod TermWords

@@ -5,15 +5,17 @@ use mathlib.Core.Bool.{Bool, true, false, cond, _&&_}
 use mathlib.Core.List.{List, _∷_}
 use Prim.Native.Nat.{ℕ, _+_, _*_, _/_, _%_, _^_}
 use lib.Dec.{eqb, ltb}
-use Rattle.gf2.specs.Strings.{BitString, _⊕_, bit}
+use lib.ListN.{length}
+use Rattle.gf2.specs.Strings.{BitString, _⊕_, bit, zeros}
 use Rattle.gf2.specs.Digits.{highFirst}
 use Rattle.gf2.specs.Words.{wordOf, tabulate}
 use Rattle.circuit.specs.declared.Colour.{Colour}
 use Rattle.circuit.specs.declared.Colour.the-variants.{Red, Blue, Green}
 use Rattle.circuit.specs.declared.Gate.{Gate}
-use Rattle.circuit.specs.Colours.{the, first, second, join}
+use Rattle.circuit.specs.Colours.{sameColour, the, first, second, join}
 use Rattle.circuit.specs.Sum.{Basis, areGates}
 use Rattle.circuit.specs.Polynomial.{Polynomial, polynomial}
+use Rattle.circuit.specs.Holding.{holding}
 
 -- The basis string of three numbers, position 1 the highest digit of m.
 unfoldable pub strings : ℕ → ℕ → ℕ → ℕ → Basis
@@ -51,3 +53,11 @@ tableOf C f = tabulate 102 (λ n. packedWord (λ i j. f (join C (n / 6) i j)) (n
 pub record Tabled (m : ℕ) (gs : List Gate) (C : Colour) (s : Basis) (table : List ℕ) : Type 0 where
   pub gates : areGates m gs ≡ true
   pub made : table ≡ tableOf C (withOutput s (polynomial gs))
+
+-- All that `one_colour` asks, where C is read at the string X of m bits and the unread colour D is sliced: the table is that of the terms that hold
+-- a position of C, at the output string with X for C and zeros for the other two.
+pub record OneTabled (m : ℕ) (gs : List Gate) (C D : Colour) (X : BitString) (table : List ℕ) : Type 0 where
+  pub gates : areGates m gs ≡ true
+  pub unread : sameColour C D ≡ false
+  pub long : length X ≡ m
+  pub made : table ≡ tableOf D (withOutput (join C X (zeros m) (zeros m)) (holding C (polynomial gs)))

@@ -5,3 +5,4 @@ pub mod OutputString
 pub mod SliceSystem
 pub mod SliceAnswer
 pub mod SliceTotals
+pub mod OneColourTotals

@@ -2,6 +2,7 @@
 use mathlib.Core.Path.{_≡_, refl, sym, _∙_, ap}
 use mathlib.Core.Bool.{Bool, true, false, cond, _||_}
 use Prim.Native.Nat.{ℕ, zero, suc, _-_, _*_, _%_, _^_, _≤_, _<_}
+use native.Mathlib.Nat.{mul-le-mul}
 use native.Mathlib.Omega.{arith}
 use lib.Bits.{bitAnd, and-mask}
 use lib.Count.{ones}
@@ -85,10 +86,12 @@ module _ (m : ℕ) (o : Outcome) where
   unfolding answerOf
   answer-kept q x v e h p = rw (v, ← e, le-ltb m q h, p)
 
-pub share-le : (m : ℕ) (a : Slice) → m ≤ 16 → shareOf m a ≤ 2 ^ 32
+-- ---- shares
+
+pub share-le : (beside m : ℕ) (a : Slice) → beside ≤ 2 → m ≤ 16 → shareOf beside m a ≤ 2 ^ 32
 unfolding shareOf
-share-le m a h = go (isNought (a .signed))
+share-le beside m a h l = go (isNought (a .signed))
   where
-    go : (b : Bool) → cond b 0 (2 ^ (2 * m - 2 * a .rank)) ≤ 2 ^ 32
+    go : (b : Bool) → cond b 0 (2 ^ (beside * m - beside * a .rank)) ≤ 2 ^ 32
     go true = omega arith
-    go false = pow-mono {j = 32} (omega arith)
+    go false = pow-mono {j = 32} (omega (arith, mul-le-mul h l))

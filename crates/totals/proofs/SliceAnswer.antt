@@ -2,7 +2,6 @@
 use mathlib.Core.Path.{_≡_, refl, sym, _∙_, ap, ap₂}
 use mathlib.Core.Logic.{inl, inr}
 use mathlib.Core.Bool.{Bool, true, false, true≢false, cond, _||_}
-use mathlib.Core.List.{List}
 use Prim.Native.Nat.{ℕ, zero, suc, _+_, _-_, _*_, _%_, _^_, _≤_, _<_}
 use native.Mathlib.Omega.{arith}
 use lib.Count.{ones}
@@ -20,10 +19,10 @@ use Rattle.gf2.proofs.Strings.{dot-zero}
 use Rattle.gf2.proofs.HighFirst.{length-highFirst}
 use Rattle.circuit.specs.declared.Colour.{Colour}
 use Rattle.circuit.specs.declared.Colour.the-variants.{Red, Blue, Green}
-use Rattle.circuit.specs.declared.Gate.{Gate}
 use Rattle.circuit.specs.Colours.{the, first, second}
-use Rattle.circuit.specs.Sum.{Basis, areGates}
-use Rattle.circuit.specs.Polynomial.{Polynomial, polynomial}
+use Rattle.circuit.specs.Sum.{Basis}
+use Rattle.circuit.specs.Polynomial.{Polynomial}
+use Rattle.circuit.proofs.PolynomialTerms.{HasTerms}
 use Rattle.elimination.specs.declared.Outcome.{Outcome}
 use Rattle.elimination.specs.Rows.{pivots}
 use Rattle.elimination.specs.State.{begun, outcomeOf}
@@ -130,17 +129,14 @@ module _ (m : ℕ) (o : Outcome) (I : ℤ) (r : ℕ) (small : m ≤ 16) (low : r
 
 -- ---- the answer of a slice
 
-module _ (m : ℕ) (gs : List Gate) (valid : areGates m gs ≡ true) (C : Colour) (s : Basis) (small : m ≤ 16)
+module _ (m : ℕ) (f : Polynomial) (terms : HasTerms m f) (C : Colour) (s : Basis) (small : m ≤ 16)
     (fits-first : length (first C s) ≤ m) (fits-second : length (second C s) ≤ m) (n : ℕ) where
-  pub slice-answers : answerAt m (withOutput s (polynomial gs)) C n ≡ sliceAnswer m (polynomial gs) C s (highFirst m n)
+  pub slice-answers : answerAt m (withOutput s f) C n ≡ sliceAnswer m f C s (highFirst m n)
   unfolding answerAt answerTo sliceAnswer sliceRank
   slice-answers =
       ap₂ (λ y (q : ℕ). record { signed = y; rank = q }) (both .0)
       (both .1 ∙ ap (λ (b : Bool). cond b 0 (rank m (gamma m f C z))) (sgn-nought (dot (the C s) z) x))
     where
-      f : Polynomial
-      f = polynomial gs
-
       z : BitString
       z = highFirst m n
 
@@ -154,7 +150,7 @@ module _ (m : ℕ) (gs : List Gate) (valid : areGates m gs ≡ true) (C : Colour
       both =
           answer-is m o (sgn (dot (the C s) z) *ℤ x) (rank m (gamma m f C z)) small (rank-le m (gamma m f C z))
           (size-signed (dot (the C s) z) (2 * m - rank m (gamma m f C z)) x (innerSum-size C m f (first C s) (second C s) z fits-first fits-second))
-          (slice-size m gs valid C s z (length-highFirst m n) small fits-first fits-second)
+          (slice-size m f terms C s z (length-highFirst m n) small fits-first fits-second)
 
 -- A string of zeros turns no sign: beside it a slice's part is the inner sum itself.
 pub part-beside-zeros : (m : ℕ) (f : Polynomial) (C : Colour) (s : Basis) (z : BitString) → isZero (the C s) ≡ true
@@ -163,19 +159,25 @@ unfolding sgn
 part-beside-zeros m f C s z h =
     ap (λ (b : Bool). sgn b *ℤ innerSum m f C (first C s) (second C s) z) (dot-zero (the C s) z h) ∙ one-*ℤ (innerSum m f C (first C s) (second C s) z)
 
--- What a slice adds to a readout count is its share.
-pub share-by-answer : (m : ℕ) (f : Polynomial) (C : Colour) (s : Basis) (z : BitString) → shareOf m (sliceAnswer m f C s z) ≡ share m f C (first C s) (second C s) z
-unfolding shareOf share sliceAnswer sliceRank
-share-by-answer m f C s z =
-    ap (λ (b : Bool). cond b 0 (2 ^ (2 * m - 2 * cond (isNought x) 0 (rank m (gamma m f C z))))) (sgn-nought (dot (the C s) z) x)
+-- What a slice adds to a count, by its inner sum and its rank.
+pub share-by-inner : (beside m : ℕ) (f : Polynomial) (C : Colour) (s : Basis) (z : BitString)
+    → shareOf beside m (sliceAnswer m f C s z) ≡ cond (isNought (innerSum m f C (first C s) (second C s) z)) 0 (2 ^ (beside * m - beside * rank m (gamma m f C z)))
+unfolding shareOf sliceAnswer sliceRank
+share-by-inner beside m f C s z =
+    ap (λ (b : Bool). cond b 0 (2 ^ (beside * m - beside * cond (isNought x) 0 (rank m (gamma m f C z))))) (sgn-nought (dot (the C s) z) x)
     ∙ go (isNought x)
   where
     x : ℤ
     x = innerSum m f C (first C s) (second C s) z
 
-    go : (b : Bool) → cond b 0 (2 ^ (2 * m - 2 * cond b 0 (rank m (gamma m f C z)))) ≡ cond b 0 (2 ^ (2 * m - 2 * rank m (gamma m f C z)))
+    go : (b : Bool) → cond b 0 (2 ^ (beside * m - beside * cond b 0 (rank m (gamma m f C z)))) ≡ cond b 0 (2 ^ (beside * m - beside * rank m (gamma m f C z)))
     go true = refl
     go false = refl
+
+-- To a readout count it adds its share.
+pub share-by-answer : (m : ℕ) (f : Polynomial) (C : Colour) (s : Basis) (z : BitString) → shareOf 2 m (sliceAnswer m f C s z) ≡ share m f C (first C s) (second C s) z
+unfolding share
+share-by-answer m f C s z = share-by-inner 2 m f C s z
 
 -- The output strings of a sum have m bits.
 pub length-strings : (C : Colour) (m r b g : ℕ) → (length (first C (strings m r b g)) ≤ m) × (length (second C (strings m r b g)) ≤ m)

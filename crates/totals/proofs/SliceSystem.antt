@@ -20,11 +20,10 @@ use Rattle.gf2.proofs.Tables.{length-tabulate, getD-tabulate}
 use Rattle.gf2.proofs.WordBits.{bitAt-wordOf-lt, wordOf-cong}
 use Rattle.circuit.specs.declared.Colour.{Colour}
 use Rattle.circuit.specs.declared.Colour.the-variants.{Red, Blue, Green}
-use Rattle.circuit.specs.declared.Gate.{Gate}
 use Rattle.circuit.specs.Colours.{the, first, second, join}
-use Rattle.circuit.specs.Sum.{Basis, at, areGates}
-use Rattle.circuit.specs.Polynomial.{Polynomial, polynomial}
-use Rattle.circuit.proofs.PolynomialTerms.{IsTerm, polynomial-terms}
+use Rattle.circuit.specs.Sum.{Basis, at}
+use Rattle.circuit.specs.Polynomial.{Polynomial}
+use Rattle.circuit.proofs.PolynomialTerms.{IsTerm, HasTerms}
 use Rattle.elimination.specs.Rows.{rowsOf, pivots}
 use Rattle.elimination.specs.State.{begun, outcomeOf}
 use Rattle.elimination.proofs.Systems.{Equation, systemSum}
@@ -112,11 +111,8 @@ module _ (a : ℕ → ℕ → Bool) where
 
 -- ---- the coefficients with the output string
 
-module _ (m : ℕ) (gs : List Gate) (valid : areGates m gs ≡ true) (C : Colour) (s : Basis) (z : BitString) (len : length z ≡ m)
+module _ (m : ℕ) (f : Polynomial) (terms : HasTerms m f) (C : Colour) (s : Basis) (z : BitString) (len : length z ≡ m)
     (small : m ≤ 16) (fits-first : length (first C s) ≤ m) (fits-second : length (second C s) ≤ m) where
-  abbrev f : Polynomial
-  f = polynomial gs
-
   abbrev a : ℕ → ℕ → Bool
   a = coefficient m (withOutput s f) C z
 
@@ -124,7 +120,7 @@ module _ (m : ℕ) (gs : List Gate) (valid : areGates m gs ≡ true) (C : Colour
   no-term k i j n = go (f (join C k i j)) refl
     where
       go : (b : Bool) → f (join C k i j) ≡ b → f (join C k i j) ≡ false
-      go true e = absurd (n (polynomial-terms m gs valid (join C k i j) e))
+      go true e = absurd (n (terms (join C k i j) e))
       go false e = e
 
   no-coefficient : (i j : ℕ) → ((k : ℕ) → IsTerm m (join C k i j) → ⊥) → coefficient m f C z i j ≡ false
@@ -227,8 +223,8 @@ module _ (m : ℕ) (gs : List Gate) (valid : areGates m gs ≡ true) (C : Colour
       v = along m (λ j. coefficient m f C z 0 j)
 
   -- What the elimination of a slice's rows says is its inner sum with its sign, doubled for each row past m.
-  pub slice-size : sizeValue (sizeOf m (outcomeOf (pivots 16 (begun (packedRows (coefficient m (withOutput s (polynomial gs)) C z))))))
-      ≡ pos (2 ^ (16 - m)) *ℤ (sgn (dot (the C s) z) *ℤ innerSum m (polynomial gs) C (first C s) (second C s) z)
+  pub slice-size : sizeValue (sizeOf m (outcomeOf (pivots 16 (begun (packedRows (coefficient m (withOutput s f) C z))))))
+      ≡ pos (2 ^ (16 - m)) *ℤ (sgn (dot (the C s) z) *ℤ innerSum m f C (first C s) (second C s) z)
   slice-size =
       sizeOf-pivots m (packedRows a) small (length-packedRows a) narrow-rows
       ∙ ap₂ (λ (b : Bool) x. sgn b *ℤ x) (ap (λ (x : ℕ). bitAt x 16) (row-of-packed a 16 (omega arith)) ∙ last-side a ∙ a-corner)

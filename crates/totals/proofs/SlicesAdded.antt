@@ -23,7 +23,7 @@ use Rattle.totals.specs.declared.Sums.{Sums}
 use Rattle.slices.specs.Slices.{coefficient}
 use Rattle.slices.specs.Totals.{tallyBelow}
 use Rattle.totals.specs.Answers.{nought, cleared, vanishing, answerOf, answerTo, answerAt, shareOf}
-use Rattle.totals.specs.Walking.{plusSlice, Walked}
+use Rattle.totals.specs.Walking.{plusSlice, sharesOver, Walked}
 use Rattle.slices.proofs.Bounds.{signed-abs}
 use Rattle.totals.proofs.OutcomeTests.{share-le}
 
@@ -56,44 +56,45 @@ answer-bounds m o a h e =
 
 -- ---- sums
 
-pub plus-abs : (m : ℕ) (a : Slice) (s : Sums) → natAbs ((plusSlice m a s) .signed) ≤ natAbs (s .signed) + natAbs (a .signed)
+pub plus-abs : (beside m : ℕ) (a : Slice) (s : Sums) → natAbs ((plusSlice beside m a s) .signed) ≤ natAbs (s .signed) + natAbs (a .signed)
 unfolding plusSlice
-plus-abs m a s = add-abs (s .signed) (a .signed)
+plus-abs beside m a s = add-abs (s .signed) (a .signed)
 
-pub plus-shares : (m : ℕ) (a : Slice) (s : Sums) → m ≤ 16 → (plusSlice m a s) .shares ≤ s .shares + 2 ^ 32
+pub plus-shares : (beside m : ℕ) (a : Slice) (s : Sums) → beside ≤ 2 → m ≤ 16 → (plusSlice beside m a s) .shares ≤ s .shares + 2 ^ 32
 unfolding plusSlice
-plus-shares m a s h = omega (arith, share-le m a h)
+plus-shares beside m a s b h = omega (arith, share-le beside m a b h)
 
-pub walked-none : (table : List ℕ) (m from : ℕ) → Walked table m from 0 (record { signed = pos 0; shares = 0 })
-unfolding sumBelow tallyBelow
-walked-none table m from = record { signed-bound = omega arith; shares-bound = omega arith; signed-exact = λ f C e. refl; shares-exact = λ f C e. refl }
+pub walked-none : (table : List ℕ) (beside m from : ℕ) → Walked table beside m from 0 (record { signed = pos 0; shares = 0 })
+unfolding sumBelow sharesOver tallyBelow
+walked-none table beside m from = record { signed-bound = omega arith; shares-bound = omega arith; signed-exact = λ f C e. refl; shares-exact = λ f C e. refl }
 
 -- The rows are those of slice n.
 abbrev pub RowsAt : List ℕ → ℕ → ℕ → List ℕ → Type 0
 RowsAt table m n rows = (f : Polynomial) (C : Colour) → table ≡ tableOf C f → rows ≡ packedRows (coefficient m f C (highFirst m n))
 
-module _ (table : List ℕ) (m from : ℕ) (small : m ≤ 16) where
-  walked-more : (k : ℕ) (s : Sums) (rows : List ℕ) → Walked table m from k s → RowsAt table m (from + k) rows → Walked table m from (suc k) (plusSlice m (answerTo m rows) s)
-  unfolding sumBelow tallyBelow plusSlice answerTo answerAt
+module _ (table : List ℕ) (beside m from : ℕ) (few : beside ≤ 2) (small : m ≤ 16) where
+  walked-more : (k : ℕ) (s : Sums) (rows : List ℕ) → Walked table beside m from k s → RowsAt table m (from + k) rows
+      → Walked table beside m from (suc k) (plusSlice beside m (answerTo m rows) s)
+  unfolding sumBelow sharesOver tallyBelow plusSlice answerTo answerAt
   walked-more k s rows w e =
       let b : _ = answer-bounds m (outcomeOf (pivots 16 (begun rows))) (answerTo m rows) small refl in
       record {
         signed-bound = omega (arith, add-abs (s .signed) ((answerTo m rows) .signed), w .signed-bound, b .1);
-        shares-bound = omega (arith, share-le m (answerTo m rows) small, w .shares-bound);
+        shares-bound = omega (arith, share-le beside m (answerTo m rows) few small, w .shares-bound);
         signed-exact = λ f C q. ap₂ (λ x y. x +ℤ y) (w .signed-exact f C q) (ap (λ (r : List ℕ). (answerTo m r) .signed) (e f C q));
-        shares-exact = λ f C q. ap₂ _+_ (w .shares-exact f C q) (ap (λ (r : List ℕ). shareOf m (answerTo m r)) (e f C q));
+        shares-exact = λ f C q. ap₂ _+_ (w .shares-exact f C q) (ap (λ (r : List ℕ). shareOf beside m (answerTo m r)) (e f C q));
       }
 
   -- slice n after those before it
-  pub walked-one : (n : ℕ) (s r : Sums) (rows : List ℕ) → from ≤ n → Walked table m from (n - from) s → RowsAt table m n rows → r ≡ plusSlice m (answerTo m rows) s
-      → Walked table m from (n + 1 - from) r
+  pub walked-one : (n : ℕ) (s r : Sums) (rows : List ℕ) → from ≤ n → Walked table beside m from (n - from) s → RowsAt table m n rows
+      → r ≡ plusSlice beside m (answerTo m rows) s → Walked table beside m from (n + 1 - from) r
   walked-one n s r rows l w e q =
       let k : from + (n - from) ≡ n = omega arith in
       let j : n + 1 - from ≡ suc (n - from) = omega arith in
       rw (q, j) (walked-more (n - from) s rows w (rw k e))
 
-  pub walked-two : (n : ℕ) (s r : Sums) (rows others : List ℕ) → from ≤ n → Walked table m from (n - from) s → RowsAt table m n rows → RowsAt table m (n + 1) others
-      → r ≡ plusSlice m (answerTo m others) (plusSlice m (answerTo m rows) s) → Walked table m from (n + 2 - from) r
+  pub walked-two : (n : ℕ) (s r : Sums) (rows others : List ℕ) → from ≤ n → Walked table beside m from (n - from) s → RowsAt table m n rows → RowsAt table m (n + 1) others
+      → r ≡ plusSlice beside m (answerTo m others) (plusSlice beside m (answerTo m rows) s) → Walked table beside m from (n + 2 - from) r
   walked-two n s r rows others l w e d q =
       let j : n + 2 - from ≡ n + 1 + 1 - from = omega arith in
-      rw j (walked-one (n + 1) (plusSlice m (answerTo m rows) s) r others (omega arith) (walked-one n s (plusSlice m (answerTo m rows) s) rows l w e refl) d q)
+      rw j (walked-one (n + 1) (plusSlice beside m (answerTo m rows) s) r others (omega arith) (walked-one n s (plusSlice beside m (answerTo m rows) s) rows l w e refl) d q)

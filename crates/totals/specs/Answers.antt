@@ -52,6 +52,6 @@ answerTo m rows = answerOf m (outcomeOf (pivots 16 (begun rows)))
 unfoldable pub answerAt : ℕ → Polynomial → Colour → ℕ → Slice
 answerAt m f C n = answerTo m (packedRows (coefficient m f C (highFirst m n)))
 
--- What a slice adds to a readout count, by its answer.
-unfoldable pub shareOf : ℕ → Slice → ℕ
-shareOf m a = cond (isNought (a .signed)) 0 (2 ^ (2 * m - 2 * a .rank))
+-- What a slice adds to a count, by its answer: 2^(m − rank) for each of the `beside` colours that are read beside the sliced one, multiplied.
+unfoldable pub shareOf : ℕ → ℕ → Slice → ℕ
+shareOf beside m a = cond (isNought (a .signed)) 0 (2 ^ (beside * m - beside * a .rank))

@@ -54,14 +54,14 @@ pub(crate) fn answer(m: u32, outcome: Outcome) -> Slice
     }
 }
 
-// What the slice adds to a readout count.
-pub(crate) fn share(m: u32, slice: Slice) -> u64
-    requires { ⌜ (m ≤ 16) × (slice .rank ≤ m) ⌝ }
-    ensures { λ r. ⌜ r ≡ shareOf m slice ⌝ }
+// What the slice adds to a count: 2^(m − rank) for each colour that is read beside the sliced one, multiplied.
+pub(crate) fn share(beside: u32, m: u32, slice: Slice) -> u64
+    requires { ⌜ (beside ≤ 2) × (m ≤ 16) × (slice .rank ≤ m) ⌝ }
+    ensures { λ r. ⌜ r ≡ shareOf beside m slice ⌝ }
 {
     let signed = slice.signed;
     if signed == 0 {
         return 0;
     }
-    1 << (2 * m - 2 * slice.rank)
+    1 << (beside * m - beside * slice.rank)
 }

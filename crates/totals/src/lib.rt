@@ -4,15 +4,17 @@ ghost use mathlib.Core.List.{List};
 ghost use mathlib.Core.Path.{_≡_};
 ghost use Prim.Native.Nat.{ℕ, _+_, _^_, _≤_};
 ghost use lib.IntN.{natAbs, _+ℤ_};
+ghost use Rattle.gf2.specs.Strings.{BitString};
 ghost use Rattle.gf2.specs.Digits.{highFirst};
 ghost use Rattle.circuit.specs.declared.Colour.{Colour};
 ghost use Rattle.circuit.specs.declared.Gate.{Gate};
 ghost use Rattle.circuit.specs.Colours.{first, second};
-ghost use Rattle.circuit.specs.Polynomial.{polynomial};
-ghost use Rattle.tables.specs.Packing.{strings, Tabled};
+ghost use Rattle.circuit.specs.Polynomial.{Polynomial, polynomial};
+ghost use Rattle.tables.specs.Packing.{strings, tableOf, Tabled, OneTabled};
 ghost use Rattle.slices.specs.Totals.{amplitudeOver, readoutOver, areSlices, moderate, moderateCount};
+ghost use Rattle.slices.specs.OneColour.{oneOver};
 ghost use Rattle.totals.specs.Answers.{sliceAnswer, nought, answerTo};
-ghost use Rattle.totals.specs.Walking.{plusSlice, Walked};
+ghost use Rattle.totals.specs.Walking.{plusSlice, sharesOver, Walked};
 use crate::answer::Slice;
 use crate::answer::answer;
 use crate::answer::share;
@@ -29,50 +31,55 @@ const LEAST: i64 = -(1 << 60);
 
 const MOST: i64 = 1 << 60;
 
-// The most that a readout count may be.
+// The most that a count may be.
 const MOST_COUNTED: u64 = 1 << 60;
 
-// What some slices add up to: their parts of the signed sum, and their shares of a readout count.
+// Of the two colours beside the sliced one, an amplitude and a readout read both. Where only one colour is read, it is one of the two.
+const BOTH: u32 = 2;
+
+const ONE: u32 = 1;
+
+// What some slices add up to: their parts of the signed sum, and their shares of a count.
 struct Sums {
     signed: i64,
     shares: u64,
 }
 
 // One slice more.
-fn with_slice(sums: Sums, m: u32, slice: Slice) -> Sums
-    requires { ⌜ (m ≤ 16) × (slice .rank ≤ m) × (natAbs (slice .signed) ≤ 2 ^ 32) × (natAbs (sums .signed) ≤ 2 ^ 60) × (sums .shares ≤ 2 ^ 60) ⌝ }
-    ensures { λ r. ⌜ r ≡ plusSlice m slice sums ⌝ }
+fn with_slice(sums: Sums, beside: u32, m: u32, slice: Slice) -> Sums
+    requires { ⌜ (beside ≤ 2) × (m ≤ 16) × (slice .rank ≤ m) × (natAbs (slice .signed) ≤ 2 ^ 32) × (natAbs (sums .signed) ≤ 2 ^ 60) × (sums .shares ≤ 2 ^ 60) ⌝ }
+    ensures { λ r. ⌜ r ≡ plusSlice beside m slice sums ⌝ }
 {
     Sums {
         signed: sums.signed + slice.signed,
-        shares: sums.shares + share(m, slice),
+        shares: sums.shares + share(beside, m, slice),
     }
 }
 
 // One slice more, by its rows.
-fn with_one(sums: Sums, m: u32, rows: [u64; WORDS]) -> Sums
-    requires { ⌜ (m ≤ 16) × (natAbs (sums .signed) ≤ 2 ^ 60) × (sums .shares ≤ 2 ^ 60) ⌝ }
-    ensures { λ r. ⌜ r ≡ plusSlice m (answerTo m rows) sums ⌝ }
+fn with_one(sums: Sums, beside: u32, m: u32, rows: [u64; WORDS]) -> Sums
+    requires { ⌜ (beside ≤ 2) × (m ≤ 16) × (natAbs (sums .signed) ≤ 2 ^ 60) × (sums .shares ≤ 2 ^ 60) ⌝ }
+    ensures { λ r. ⌜ r ≡ plusSlice beside m (answerTo m rows) sums ⌝ }
 {
-    with_slice(sums, m, answer(m, elimination::eliminate(rows)))
+    with_slice(sums, beside, m, answer(m, elimination::eliminate(rows)))
 }
 
 // Two slices more: their eliminations do not wait for each other.
-fn with_two(sums: Sums, m: u32, rows: [u64; WORDS], others: [u64; WORDS]) -> Sums
-    requires { ⌜ (m ≤ 16) × (natAbs (sums .signed) ≤ 2 ^ 59) × (sums .shares ≤ 2 ^ 59) ⌝ }
-    ensures { λ r. ⌜ r ≡ plusSlice m (answerTo m others) (plusSlice m (answerTo m rows) sums) ⌝ }
+fn with_two(sums: Sums, beside: u32, m: u32, rows: [u64; WORDS], others: [u64; WORDS]) -> Sums
+    requires { ⌜ (beside ≤ 2) × (m ≤ 16) × (natAbs (sums .signed) ≤ 2 ^ 59) × (sums .shares ≤ 2 ^ 59) ⌝ }
+    ensures { λ r. ⌜ r ≡ plusSlice beside m (answerTo m others) (plusSlice beside m (answerTo m rows) sums) ⌝ }
 {
     let both = elimination::eliminate_both(rows, others);
     let a = both.a;
     let b = both.b;
-    let first = with_slice(sums, m, answer(m, a));
-    with_slice(first, m, answer(m, b))
+    let first = with_slice(sums, beside, m, answer(m, a));
+    with_slice(first, beside, m, answer(m, b))
 }
 
 // The slices from `from` on, two at a time as long as there are two.
-fn walk(table: &[u64; TABLE], m: usize, from: usize, count: usize) -> Sums
-    requires { ⌜ (m ≤ 16) × (from + count ≤ 2 ^ m) ⌝ }
-    ensures { λ r. ⌜ Walked (now (table .entry)) m from count r ⌝ }
+fn walk(table: &[u64; TABLE], beside: u32, m: usize, from: usize, count: usize) -> Sums
+    requires { ⌜ (beside ≤ 2) × (m ≤ 16) × (from + count ≤ 2 ^ m) ⌝ }
+    ensures { λ r. ⌜ Walked (now (table .entry)) beside m from count r ⌝ }
 {
     let steps = changes(table, m);
     let size = m as u32;
@@ -85,13 +92,13 @@ fn walk(table: &[u64; TABLE], m: usize, from: usize, count: usize) -> Sums
     let mut n = from;
     while n + 1 < end {
         let others = next_rows(rows, &steps, n + 1);
-        sums = with_two(sums, size, rows, others);
+        sums = with_two(sums, beside, size, rows, others);
         n += 2;
         let next = next_rows(others, &steps, n);
         rows = next;
     }
     if n < end {
-        sums = with_one(sums, size, rows);
+        sums = with_one(sums, beside, size, rows);
     }
     sums
 }
@@ -144,23 +151,47 @@ pub fn amplitude(table: [u64; TABLE], m: usize, from: usize, count: usize, total
     if !is_moderate(total) {
         return total; // no amplitude is so large
     }
-    let sums = walk(&table, m, from, count);
+    let sums = walk(&table, BOTH, m, from, count);
     total + sums.signed
 }
 
-// The readout count with `count` more slices, from slice `from` on. It stays as it is where there are no such slices, and where it is too
-// large for a sum's.
+// A count with `count` more slices, from slice `from` on, where `beside` colours are read beside the sliced one. It stays as it is where there
+// are no such slices, and where it is too large for a sum's.
+fn counted(
+    table: &[u64; TABLE],
+    beside: u32,
+    m: usize,
+    from: usize,
+    count: usize,
+    total: u64,
+) -> u64
+    requires { ⌜ beside ≤ 2 ⌝ }
+    ensures { λ x. ⌜ ((f : Polynomial) (C : Colour) → now (table .entry) ≡ tableOf C f →
+        x ≡ cond (areSlices m from count && moderateCount total) (total + sharesOver beside m f C from count) total) ⌝ }
+{
+    if !in_range(m, from, count) {
+        return total; // a count has no such slices
+    }
+    if MOST_COUNTED < total {
+        return total; // no count is so large
+    }
+    let sums = walk(table, beside, m, from, count);
+    total + sums.shares
+}
+
+// The readout count with `count` more slices, from slice `from` on.
 pub fn readout(table: [u64; TABLE], m: usize, from: usize, count: usize, total: u64) -> u64
     ensures { λ x. ⌜ ((gs : List Gate) (C : Colour) (r b g : ℕ) → Tabled m gs C (strings m r b g) table →
         x ≡ cond (areSlices m from count && moderateCount total)
         (total + readoutOver m (polynomial gs) C (first C (strings m r b g)) (second C (strings m r b g)) from count) total) ⌝ }
 {
-    if !in_range(m, from, count) {
-        return total; // a readout has no such slices
-    }
-    if MOST_COUNTED < total {
-        return total; // no readout count is so large
-    }
-    let sums = walk(&table, m, from, count);
-    total + sums.shares
+    counted(&table, BOTH, m, from, count, total)
+}
+
+// The count of the one colour read with `count` more slices, from slice `from` on.
+pub fn one_colour(table: [u64; TABLE], m: usize, from: usize, count: usize, total: u64) -> u64
+    ensures { λ x. ⌜ ((gs : List Gate) (C D : Colour) (X : BitString) → OneTabled m gs C D X table →
+        x ≡ cond (areSlices m from count && moderateCount total) (total + oneOver m (polynomial gs) C D X from count) total) ⌝ }
+{
+    counted(&table, ONE, m, from, count, total)
 }

@@ -38,7 +38,9 @@ returns-2 c gs C r b g t =
     rw (y, n) (toZ-ofZ (s .fits .total))
 
 walk-requires : tie.Need-walk-requires
-walk-requires c κs = range-holds _ _ _ (sym (c .before .before .before .before .in-range .ensures) ∙ not-false _ (c .before .before .before .if1 .left))
+walk-requires c κs =
+    let p : _ = range-holds _ _ _ (sym (c .before .before .before .before .in-range .ensures) ∙ not-false _ (c .before .before .before .if1 .left)) in
+    (omega arith, p .0, p .1)
 
 add-result : tie.Need-add-result
 add-result c =

@@ -17,8 +17,8 @@ with-slice-requires : tie.Need-with-slice-requires
 with-slice-requires c κs =
     let a : _ = c .before .before .args in
     let p : _ = c .before .before .pre in
-    let b : _ = answer-bounds (a .m) (c .before .eliminate .result) (c .answer .result) (p .0) (c .answer .ensures) in
-    (p .0, b .0, b .1, p .1, p .2)
+    let b : _ = answer-bounds (a .m) (c .before .eliminate .result) (c .answer .result) (p .1) (c .answer .ensures) in
+    (p .0, p .1, b .0, b .1, p .2, p .3)
 
 returns : tie.Need-returns
 unfolding answerTo
@@ -26,7 +26,7 @@ returns c =
     let a : _ = c .before .before .before .args in
     let o : _ = c .before .before .eliminate in
     c .with-slice .ensures
-    ∙ ap (λ x. plusSlice (a .m) x (a .sums))
+    ∙ ap (λ x. plusSlice (a .beside) (a .m) x (a .sums))
     (c .before .answer .ensures ∙ ap (answerOf (a .m)) (o .ensures))
 
 pub with-one-spec : {M : Type 1} → statement M

@@ -10,21 +10,23 @@ use Rattle.totals.proofs.OutcomeTests.{abs-fits, share-le}
 use Rattle.totals.proofs.with_slice.Statement.{statement}
 use Rattle.totals.proofs.with_slice.Tie as tie
 
-add-t4 : tie.Need-add-t4
-add-t4 c =
+add-t5 : tie.Need-add-t5
+add-t5 c =
     let a : _ = c .before .before .before .before .args in
     let p : _ = c .before .before .before .before .pre in
     rw (toZ-ofZ (abs-fits (a .sums .signed) (omega arith)), toZ-ofZ (abs-fits (a .slice .signed) (omega arith)))
     (abs-fits (a .sums .signed +ℤ a .slice .signed) (omega (arith, add-abs (a .sums .signed) (a .slice .signed))))
 
 share-requires : tie.Need-share-requires
-share-requires c κs = (c .before .before .before .before .pre .0, c .before .before .before .before .pre .1)
+share-requires c κs =
+    let p : _ = c .before .before .before .before .pre in
+    (p .0, p .1, p .2)
 
-add-t6 : tie.Need-add-t6
-add-t6 c =
+add-t7 : tie.Need-add-t7
+add-t7 c =
     let a : _ = c .before .before .before .before .before .before .args in
     let p : _ = c .before .before .before .before .before .before .pre in
-    omega (arith, c .before .share .ensures, share-le (a .m) (a .slice) (p .0))
+    omega (arith, c .before .share .ensures, share-le (a .beside) (a .m) (a .slice) (p .0) (p .1))
 
 returns : tie.Need-returns
 unfolding plusSlice
@@ -32,8 +34,8 @@ returns c =
     let a : _ = c .before .before .before .before .before .before .args in
     let p : _ = c .before .before .before .before .before .before .pre in
     ap₂ (λ x (y : ℕ). record { signed = x; shares = y })
-    (toZ-ofZ (add-t4 (c .before .before)) ∙ ap₂ (λ x y. x +ℤ y) (toZ-ofZ (abs-fits (a .sums .signed) (omega arith))) (toZ-ofZ (abs-fits (a .slice .signed) (omega arith))))
+    (toZ-ofZ (add-t5 (c .before .before)) ∙ ap₂ (λ x y. x +ℤ y) (toZ-ofZ (abs-fits (a .sums .signed) (omega arith))) (toZ-ofZ (abs-fits (a .slice .signed) (omega arith))))
     (ap (λ (x : ℕ). a .sums .shares + x) (c .before .share .ensures))
 
 pub with-slice-spec : {M : Type 1} → statement M
-with-slice-spec = tie.close (tie.spec add-t4 share-requires add-t6 returns)
+with-slice-spec = tie.close (tie.spec add-t5 share-requires add-t7 returns)

@@ -20,8 +20,8 @@ with-slice-requires : tie.Need-with-slice-requires
 with-slice-requires c κs =
     let a : _ = c .before .before .before .before .args in
     let p : _ = c .before .before .before .before .pre in
-    let b : _ = answer-bounds (a .m) _ (c .answer .result) (p .0) (c .answer .ensures) in
-    (p .0, b .0, b .1, omega arith, omega arith)
+    let b : _ = answer-bounds (a .m) _ (c .answer .result) (p .1) (c .answer .ensures) in
+    (p .0, p .1, b .0, b .1, omega arith, omega arith)
 
 answer-requires-2 : tie.Need-answer-requires-2
 answer-requires-2 c κs = search needs
@@ -31,13 +31,14 @@ with-slice-requires-2 c κs =
     let a : _ = c .before .before .before .before .before .before .args in
     let p : _ = c .before .before .before .before .before .before .pre in
     let x : _ = c .before .before .answer in
-    let b : _ = answer-bounds (a .m) _ (x .result) (p .0) (x .ensures) in
-    let d : _ = answer-bounds (a .m) _ (c .answer2 .result) (p .0) (c .answer2 .ensures) in (
+    let b : _ = answer-bounds (a .m) _ (x .result) (p .1) (x .ensures) in
+    let d : _ = answer-bounds (a .m) _ (c .answer2 .result) (p .1) (c .answer2 .ensures) in (
       p .0,
+      p .1,
       d .0,
       d .1,
-      omega (arith, ap (λ (s : Sums). natAbs (s .signed)) (c .before .with-slice .ensures), plus-abs (a .m) (x .result) (a .sums)),
-      omega (arith, ap (λ (s : Sums). s .shares) (c .before .with-slice .ensures), plus-shares (a .m) (x .result) (a .sums) (p .0)),
+      omega (arith, ap (λ (s : Sums). natAbs (s .signed)) (c .before .with-slice .ensures), plus-abs (a .beside) (a .m) (x .result) (a .sums)),
+      omega (arith, ap (λ (s : Sums). s .shares) (c .before .with-slice .ensures), plus-shares (a .beside) (a .m) (x .result) (a .sums) (p .0) (p .1)),
     )
 
 returns : tie.Need-returns
@@ -46,8 +47,8 @@ returns c =
     let a : _ = c .before .before .before .before .before .before .before .args in
     let o : _ = c .before .before .before .before .before .before .eliminate-both in
     c .with-slice2 .ensures
-    ∙ ap₂ (plusSlice (a .m)) (c .before .answer2 .ensures ∙ ap (answerOf (a .m)) (o .ensures .1))
-    (c .before .before .with-slice .ensures ∙ ap (λ x. plusSlice (a .m) x (a .sums)) (c .before .before .before .answer .ensures ∙ ap (answerOf (a .m)) (o .ensures .0)))
+    ∙ ap₂ (plusSlice (a .beside) (a .m)) (c .before .answer2 .ensures ∙ ap (answerOf (a .m)) (o .ensures .1))
+    (c .before .before .with-slice .ensures ∙ ap (λ x. plusSlice (a .beside) (a .m) x (a .sums)) (c .before .before .before .answer .ensures ∙ ap (answerOf (a .m)) (o .ensures .0)))
 
 pub with-two-spec : {M : Type 1} → statement M
 with-two-spec =
