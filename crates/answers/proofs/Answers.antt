@@ -1,5 +1,5 @@
--- Answers of different meaning have different bytes: the answer can be read back from its line. Its second byte tells the kind, and a
--- number ends where no digit follows.
+-- Answers of different meaning have different bytes: the answer can be read back from its line. Its second byte tells the kind, and where
+-- that is 'o', of "(ok)" and of "(one ", the third does, 'k' or 'n'; a number ends where no digit follows.
 use Prim.Native.Nat.{ℕ}
 use mathlib.Core.Path.{_≡_, refl, sym, ap, _∙_}
 use mathlib.Core.Bool.{cond, false}
@@ -13,14 +13,15 @@ use Rattle.text.proofs.Decimal.{value-decimal, after-decimal}
 use Rattle.text.proofs.DecimalUnique.{signedFrom, afterSigned, value-signed, after-signed}
 use Rattle.text.proofs.GatesUnique.{gate-of-line}
 use Rattle.answers.specs.declared.Answer.{Answer}
-use Rattle.answers.specs.declared.Answer.the-variants.{Ok, Left, Amplitude, Readout, Terms, Listed, Refused}
+use Rattle.answers.specs.declared.Answer.the-variants.{Ok, Left, Amplitude, Readout, OneColour, Terms, Listed, Refused}
 use Rattle.answers.specs.Answers.{bytesOf}
 
 -- ---- reading back
 
 unfoldable answerOf : List ℕ → Answer
 answerOf l =
-    cond (eqb (getD l 1 0) 111) Ok
+    cond (eqb (getD l 1 0) 111)
+    (cond (eqb (getD l 2 0) 107) Ok (OneColour (valueFrom 0 (drop 5 l)) (valueFrom 0 (pastNumber (drop 5 l)))))
     (cond (eqb (getD l 1 0) 108) (Left (valueFrom 0 (drop 6 l)))
     (cond (eqb (getD l 1 0) 97) (Amplitude (signedFrom (drop 5 l)) (valueFrom 0 (drop 1 (afterSigned (drop 5 l)))))
     (cond (eqb (getD l 1 0) 112) (Readout (valueFrom 0 (drop 6 l)) (valueFrom 0 (pastNumber (drop 6 l))))
@@ -44,6 +45,9 @@ answer-of (Amplitude s n) =
     let ns : List ℕ = decimal n ++ bytes ")" in
     rw (value-signed s (32 ∷ ns) refl, after-signed s (32 ∷ ns) refl, number-at n 41 [] refl)
 answer-of (Readout t n) =
+    let ns : List ℕ = decimal n ++ bytes ")" in
+    rw (number-at t 32 ns refl, past-number t 32 ns refl, number-at n 41 [] refl)
+answer-of (OneColour t n) =
     let ns : List ℕ = decimal n ++ bytes ")" in
     rw (number-at t 32 ns refl, past-number t 32 ns refl, number-at n 41 [] refl)
 answer-of (Terms n) = rw (number-at n 41 [] refl)

@@ -16,7 +16,7 @@ use Rattle.text.specs.Spelling.{bytes, decimal, signedDecimal, spelledSpot, spe
 use Rattle.text.proofs.DecimalUnique.{decimal-length}
 use Rattle.writing.proofs.Signed.{distance-bound}
 use Rattle.answers.specs.declared.Answer.{Answer}
-use Rattle.answers.specs.declared.Answer.the-variants.{Ok, Left, Amplitude, Readout, Terms, Listed, Refused}
+use Rattle.answers.specs.declared.Answer.the-variants.{Ok, Left, Amplitude, Readout, OneColour, Terms, Listed, Refused}
 use Rattle.answers.specs.Answers.{bytesOf}
 use Rattle.answers.proofs.Answer.{the-row}
 
@@ -57,6 +57,8 @@ answer-within (Amplitude s n) v p =
     simp length-append (omega (arith, signed-word s (record { sfits = p .1 .1 .1 .1 .0 .1 }), decimal-word n (omega arith)))
 answer-within (Readout t n) v p =
     simp length-append (omega (arith, decimal-word t (omega arith), decimal-word n (omega arith)))
+answer-within (OneColour t n) v p =
+    simp length-append (omega (arith, decimal-word t (omega arith), decimal-word n (omega arith)))
 answer-within (Terms n) v p = simp length-append (omega (arith, decimal-word n (omega arith)))
 answer-within (Listed g) v p = gate-within g _ (p .1 .1 .1 .1 .0)
 answer-within (Refused e) v p = simp length-append (omega (arith, decimal-word e (omega arith)))
@@ -74,6 +76,7 @@ Modest Ok = Unit {0}
 Modest (Left l) = l < 2 ^ 17
 Modest (Amplitude s n) = (natAbs s < 2 ^ 49) × (n < 100)
 Modest (Readout t n) = (t < 2 ^ 49) × (n < 100)
+Modest (OneColour t n) = (t < 2 ^ 49) × (n < 100)
 Modest (Terms n) = n < 10000
 Modest (Listed g) = ModestGate g
 Modest (Refused e) = e < 100
@@ -96,6 +99,8 @@ answer-fits (Left l) h = simp length-append (omega (arith, decimal-length 6 l (o
 answer-fits (Amplitude s n) h =
     simp length-append (omega (arith, signed-length 15 s (omega arith) (omega arith), two-digits n (h .1)))
 answer-fits (Readout t n) h =
+    simp length-append (omega (arith, decimal-length 15 t (omega arith) (omega arith), two-digits n (h .1)))
+answer-fits (OneColour t n) h =
     simp length-append (omega (arith, decimal-length 15 t (omega arith) (omega arith), two-digits n (h .1)))
 answer-fits (Terms n) h = simp length-append (omega (arith, decimal-length 4 n h (omega arith)))
 answer-fits (Listed g) h = gate-fits g h

@@ -7,7 +7,7 @@ use lib.Dec.{leb}
 use lib.ListN.{length, drop}
 use Rattle.text.specs.Spelling.{bytes, decimal, signedDecimal, spelledGate}
 use Rattle.answers.specs.declared.Answer.{Answer}
-use Rattle.answers.specs.declared.Answer.the-variants.{Ok, Left, Amplitude, Readout, Terms, Listed, Refused}
+use Rattle.answers.specs.declared.Answer.the-variants.{Ok, Left, Amplitude, Readout, OneColour, Terms, Listed, Refused}
 
 -- The line of each answer. A listed term is a line of its own, a `ccz` or `cz` form; E is the number of the refusal.
 unfoldable pub bytesOf : Answer → List ℕ
@@ -15,6 +15,7 @@ bytesOf Ok = bytes "(ok)"
 bytesOf (Left l) = bytes "(left " ++ (decimal l ++ bytes ")")
 bytesOf (Amplitude s n) = bytes "(amp " ++ (signedDecimal s ++ (bytes " " ++ (decimal n ++ bytes ")")))
 bytesOf (Readout t n) = bytes "(part " ++ (decimal t ++ (bytes " " ++ (decimal n ++ bytes ")")))
+bytesOf (OneColour t n) = bytes "(one " ++ (decimal t ++ (bytes " " ++ (decimal n ++ bytes ")")))
 bytesOf (Terms n) = bytes "(terms " ++ (decimal n ++ bytes ")")
 bytesOf (Listed g) = spelledGate g
 bytesOf (Refused e) = bytes "(no " ++ (decimal e ++ bytes ")")

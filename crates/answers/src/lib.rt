@@ -26,6 +26,8 @@ pub enum Answer {
     Amplitude(i64, u32),
     // A readout count, and the exponent.
     Readout(u64, u32),
+    // The count of the one colour read, and the exponent.
+    OneColour(u64, u32),
     // How many terms the listing has.
     Terms(usize),
     // One of them, as the gate that adds it.
@@ -48,10 +50,11 @@ fn amplitude_line(s: i64, n: u64) -> Text
     push_byte(whole, b')')
 }
 
-fn readout_line(t: u64, n: u64) -> Text
-    ensures { λ r. ⌜ r ≡ textOf (bytesOf (Answer.Readout t n)) ⌝ }
+// A count and its exponent.
+fn count_line(word: &[u8], t: u64, n: u64) -> Text
+    ensures { λ r. ⌜ r ≡ textOf (now (word .entry) ++ (decimal t ++ (bytes " " ++ (decimal n ++ bytes ")")))) ⌝ }
 {
-    let counted = push_number(text_of(b"(part "), t);
+    let counted = push_number(text_of(word), t);
     let whole = push_spaced(counted, n);
     push_byte(whole, b')')
 }
@@ -100,7 +103,8 @@ fn line_of(answer: Answer) -> Text
         Answer::Ok => text_of(b"(ok)"),
         Answer::Left(l) => number_line(b"(left ", l),
         Answer::Amplitude(s, n) => amplitude_line(s, n as u64),
-        Answer::Readout(t, n) => readout_line(t, n as u64),
+        Answer::Readout(t, n) => count_line(b"(part ", t, n as u64),
+        Answer::OneColour(t, n) => count_line(b"(one ", t, n as u64),
         Answer::Terms(n) => number_line(b"(terms ", n as u64),
         Answer::Listed(g) => gate_line(g),
         Answer::Refused(e) => number_line(b"(no ", e as u64),

@@ -1,4 +1,4 @@
--- What the forms share, read exactly where it is spelled: a number, two and three bit strings, a gate, each up to the line's end.
+-- What the forms share, read exactly where it is spelled: a number, one to three bit strings, a gate, each up to the line's end.
 use Prim.Native.Nat.{ℕ, _+_}
 use mathlib.Core.Path.{_≡_, refl, ap, sym, _∙_}
 use mathlib.Core.Bool.{Bool, true, false, cond}
@@ -31,12 +31,13 @@ use Rattle.forms.proofs.LayerSpelling.{held-twice}
 abbrev pub number-form : (ℕ → Form) → List ℕ → ℕ → Form
 number-form form l a = withNumber (Form.Refused 4) (readNumber l a) λ k b. closed l b (form k)
 
+-- A bit string and the closing bracket.
+abbrev pub one-string : (Bits → Form) → List ℕ → ℕ → Form
+one-string form l a = withBits (Form.Refused 4) (spacedBits l a) λ x b. closed l b (form x)
+
 -- Two bit strings and the closing bracket.
 abbrev pub two-strings : (Bits → Bits → Form) → List ℕ → ℕ → Form
-two-strings form l a =
-    withBits (Form.Refused 4) (spacedBits l a) λ x b.
-    withBits (Form.Refused 4) (spacedBits l b) λ y d.
-    closed l d (form x y)
+two-strings form l a = withBits (Form.Refused 4) (spacedBits l a) λ x b. one-string (form x) l b
 
 -- Three bit strings and the closing bracket.
 abbrev pub three-strings : (Bits → Bits → Bits → Form) → List ℕ → ℕ → Form
@@ -59,16 +60,23 @@ closed-read l at f e = keyword-then _ _ [] _ _ (bytes ")") _ e λ e₁. ended-re
 pub number-form-read : (l : List ℕ) (at n : ℕ) (form : ℕ → Form) → drop at l ≡ decimal n ++ bytes ")" → number-form form l at ≡ form (capped n)
 number-form-read l at n form e = number-then _ _ (bytes ")") _ _ n _ (λ z. refl) e λ e₁. closed-read _ _ _ e₁
 
+pub one-string-read : (l : List ℕ) (at : ℕ) (x : BitString) (form : Bits → Form) → allSome (x ∷ []) ≡ true
+    → drop at l ≡ spelledBits x ++ bytes ")"
+    → one-string form l at ≡ form (heldBits x)
+unfolding spelledBits allSome
+one-string-read l at x form h e =
+    let p = and-both (someBits x) true h in
+    spaced-bits-then _ _ (bytes ")") _ _ x _ (some-bits x (p .0)) refl e λ e₁.
+    closed-read _ _ _ e₁
+
 pub two-strings-read : (l : List ℕ) (at : ℕ) (x y : BitString) (form : Bits → Bits → Form) → allSome (x ∷ y ∷ []) ≡ true
     → drop at l ≡ spelledBits x ++ (spelledBits y ++ bytes ")")
     → two-strings form l at ≡ form (heldBits x) (heldBits y)
 unfolding spelledBits allSome
 two-strings-read l at x y form h e =
     let p = and-both (someBits x) (allSome (y ∷ [])) h in
-    let q = and-both (someBits y) true (p .1) in
     spaced-bits-then _ _ (spelledBits y ++ bytes ")") _ _ x _ (some-bits x (p .0)) refl e λ e₁.
-    spaced-bits-then _ _ (bytes ")") _ _ y _ (some-bits y (q .0)) refl e₁ λ e₂.
-    closed-read _ _ _ e₂
+    one-string-read _ _ y (form (heldBits x)) (p .1) e₁
 
 pub three-strings-read : (l : List ℕ) (at : ℕ) (x y z : BitString) (form : Bits → Bits → Bits → Form)
     → allSome (x ∷ y ∷ z ∷ []) ≡ true
@@ -114,15 +122,23 @@ module _ (P : Form → Type 0) (l : List ℕ) (refused : P (Form.Refused 4)) whe
       closed-cases b _ λ e₂.
       k n (e₁ ∙ ap (λ (a : List ℕ). decimal n ++ a) e₂)
 
+  pub one-string-cases : (form : Bits → Form) (at : ℕ)
+      → ((x : BitString) → allSome (x ∷ []) ≡ true → drop at l ≡ spelledBits x ++ bytes ")" → P (form (heldBits x)))
+      → P (one-string form l at)
+  unfolding spelledBits allSome
+  one-string-cases form at k =
+      spaced-bits-cases P l at (Form.Refused 4) refused _ λ x b p e₁.
+      closed-cases b _ λ e₂.
+      k x (rw (some-bits-are x p)) (e₁ ∙ rw e₂)
+
   pub two-strings-cases : (form : Bits → Bits → Form) (at : ℕ)
       → ((x y : BitString) → allSome (x ∷ y ∷ []) ≡ true → drop at l ≡ spelledBits x ++ (spelledBits y ++ bytes ")") → P (form (heldBits x) (heldBits y)))
       → P (two-strings form l at)
   unfolding spelledBits allSome
   two-strings-cases form at k =
       spaced-bits-cases P l at (Form.Refused 4) refused _ λ x b p e₁.
-      spaced-bits-cases P l b (Form.Refused 4) refused _ λ y d q e₂.
-      closed-cases d _ λ e₃.
-      k x y (rw (some-bits-are x p, some-bits-are y q)) (e₁ ∙ rw (e₂, e₃))
+      one-string-cases (form (heldBits x)) b λ y q e₂.
+      k x y (rw (some-bits-are x p) q) (e₁ ∙ rw e₂)
 
   pub three-strings-cases : (form : Bits → Bits → Bits → Form) (at : ℕ)
       → ((x y z : BitString) → allSome (x ∷ y ∷ z ∷ []) ≡ true

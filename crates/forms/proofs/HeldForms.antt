@@ -11,7 +11,7 @@ use Rattle.text.specs.Reading.{capped, heldBits}
 use Rattle.gates.specs.Gates.{heldGate}
 use Rattle.forms.specs.declared.Form.{Form}
 use Rattle.forms.specs.declared.Form.the-variants as Form
-use Rattle.forms.specs.Typed.{amp, part, Typed, circuit, gate, layer, undo, start, opens, step, drop, terms}
+use Rattle.forms.specs.Typed.{amp, part, one, Typed, circuit, gate, layer, undo, start, opens, step, drop, terms}
 use Rattle.forms.specs.Held.{gateForm, held}
 
 abbrev pub heldSpot : Spot → Spot
@@ -27,6 +27,7 @@ pub data HeldAs : Typed → Form → Type 0 where
   starts : {r b g : BitString} → HeldAs (start r b g) (Form.Start (heldBits r) (heldBits b) (heldBits g))
   amps : {C : Colour} {r b g : BitString} → HeldAs (opens (amp C r b g)) (Form.Amp C (heldBits r) (heldBits b) (heldBits g))
   parts : {C : Colour} {x y : BitString} → HeldAs (opens (part C x y)) (Form.Part C (heldBits x) (heldBits y))
+  ones : {C : Colour} {x : BitString} → HeldAs (opens (one C x)) (Form.One C (heldBits x))
   steps : {k : ℕ} → HeldAs (step k) (Form.Step (capped k))
   drops : HeldAs drop Form.Drop
   lists : HeldAs terms Form.Terms
@@ -42,6 +43,7 @@ held-as (undo k) = undos
 held-as (start r b g) = starts
 held-as (opens (amp C r b g)) = amps
 held-as (opens (part C x y)) = parts
+held-as (opens (one C x)) = ones
 held-as (step k) = steps
 held-as drop = drops
 held-as terms = lists

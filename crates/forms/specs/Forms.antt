@@ -52,6 +52,12 @@ partFrom l o =
     withBits (Form.Refused 4) (spacedBits l b) λ y d.
     closed l d (Form.Part c x y)
 
+unfoldable pub oneFrom : List ℕ → ℕ → Form
+oneFrom l o =
+    withColour (Form.Refused 4) (readColour l o) λ c a.
+    withBits (Form.Refused 4) (spacedBits l a) λ x b.
+    closed l b (Form.One c x)
+
 -- The gates of a layer from here on: `skip` bytes of the last one are still to be passed, n gates are, and `twice` tells of a `cz` with
 -- one colour twice among them. Since 4 is tried before 5 (Manual 7.1), that is refused only at the line's end.
 unfoldable pub layerFrom : ℕ → ℕ → Bool → List ℕ → Form

@@ -6,7 +6,7 @@ use Rattle.text.specs.Reading.{capped, heldBits}
 use Rattle.gates.specs.Gates.{heldGate}
 use Rattle.forms.specs.declared.Form.{Form}
 use Rattle.forms.specs.declared.Form.the-variants as Form
-use Rattle.forms.specs.Typed.{amp, part, Typed, circuit, gate, layer, undo, start, opens, step, drop, terms}
+use Rattle.forms.specs.Typed.{amp, part, one, Typed, circuit, gate, layer, undo, start, opens, step, drop, terms}
 use Rattle.forms.specs.Spelling.{Reading, typed, refused}
 
 unfoldable pub gateForm : Gate → Form
@@ -22,6 +22,7 @@ held (undo k) = Form.Undo (capped k)
 held (start r b g) = Form.Start (heldBits r) (heldBits b) (heldBits g)
 held (opens (amp C r b g)) = Form.Amp C (heldBits r) (heldBits b) (heldBits g)
 held (opens (part C x y)) = Form.Part C (heldBits x) (heldBits y)
+held (opens (one C x)) = Form.One C (heldBits x)
 held (step k) = Form.Step (capped k)
 held drop = Form.Drop
 held terms = Form.Terms

@@ -11,7 +11,7 @@ use Rattle.circuit.specs.Colours.{sameColour}
 use Rattle.circuit.specs.declared.Gate.{Gate}
 use Rattle.circuit.specs.declared.Gate.the-variants.{Ccz, Cz, Cnot}
 use Rattle.text.specs.Spelling.{bytes, decimal, letter, bitDigits, spelledGate}
-use Rattle.forms.specs.Typed.{amp, part, Typed, circuit, gate, layer, undo, start, opens, step, drop as dropped, terms, row}
+use Rattle.forms.specs.Typed.{amp, part, one, Typed, circuit, gate, layer, undo, start, opens, step, drop as dropped, terms, row}
 
 -- ---- one spelling a form
 
@@ -33,6 +33,7 @@ spelled (undo k) = bytes "(undo " ++ (decimal k ++ bytes ")")
 spelled (start r b g) = bytes "(start" ++ (spelledBits r ++ (spelledBits b ++ (spelledBits g ++ bytes ")")))
 spelled (opens (amp C r b g)) = bytes "(amp " ++ (letter C ∷ (spelledBits r ++ (spelledBits b ++ (spelledBits g ++ bytes ")"))))
 spelled (opens (part C x y)) = bytes "(part " ++ (letter C ∷ (spelledBits x ++ (spelledBits y ++ bytes ")")))
+spelled (opens (one C x)) = bytes "(one " ++ (letter C ∷ (spelledBits x ++ bytes ")"))
 spelled (step k) = bytes "(step " ++ (decimal k ++ bytes ")")
 spelled dropped = bytes "(drop)"
 spelled terms = bytes "(terms)"

@@ -1,4 +1,4 @@
--- The twelve forms as they are typed (Manual 5), with numbers and bit strings of any length, and the row of each: all that the places of refusal
+-- The thirteen forms as they are typed (Manual 5), with numbers and bit strings of any length, and the row of each: all that the places of refusal
 -- and the book of a run ask of a form.
 use Prim.Native.Nat.{ℕ}
 use mathlib.Core.List.{List, [], _∷_}
@@ -9,12 +9,13 @@ use Rattle.circuit.specs.declared.Gate.{Gate}
 use Rattle.forms.specs.declared.Class.{Class}
 use Rattle.forms.specs.declared.Class.the-variants.{Creates, Builds, TakesBack, Starts, Opens, Steps, Drops, Lists}
 
--- What a sum is opened for: `(amp C R B G)`, `(part C X Y)` (Manual 5.8, 5.9).
+-- What a sum is opened for: `(amp C R B G)`, `(part C X Y)`, `(one C X)` (Manual 5.8, 5.9, 5.13).
 pub data Asked : Type 0 where
   amp : Colour → BitString → BitString → BitString → Asked
   part : Colour → BitString → BitString → Asked
+  one : Colour → BitString → Asked
 
--- The twelve forms: three gates, two that open a sum, and seven more.
+-- The thirteen forms: three gates, three that open a sum, and seven more.
 pub data Typed : Type 0 where
   circuit : ℕ → Typed
   gate : Gate → Typed
@@ -51,6 +52,7 @@ building gs = record { class = Builds; number = length gs; least = 1; most = 48;
 unfoldable pub stringsOf : Asked → List BitString
 stringsOf (amp C r b g) = r ∷ b ∷ g ∷ []
 stringsOf (part C x y) = x ∷ y ∷ []
+stringsOf (one C x) = x ∷ []
 
 -- The row of each form, with its range: m up to 16, the k of `undo` up to 4,096, that of `step` up to 65,536, all from 1.
 unfoldable pub row : Typed → Row

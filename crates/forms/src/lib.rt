@@ -21,7 +21,7 @@ use text::read_keyword;
 use text::read_number;
 use text::spaced_bits;
 
-// The twelve forms with their operands, and the refusal of a line that is none of them.
+// The thirteen forms with their operands, and the refusal of a line that is none of them.
 pub enum Form {
     Circuit(usize),
     Ccz(usize, usize, usize),
@@ -33,6 +33,7 @@ pub enum Form {
     Start(Bits, Bits, Bits),
     Amp(Colour, Bits, Bits, Bits),
     Part(Colour, Bits, Bits),
+    One(Colour, Bits),
     Step(usize),
     Drop,
     Terms,
@@ -141,6 +142,18 @@ pub fn part(line: &[u8], o: usize) -> Form
         return Form::Refused(4);
     };
     closed(line, d, Form::Part(colour, x, y))
+}
+
+pub fn one(line: &[u8], o: usize) -> Form
+    ensures { λ r. ⌜ r ≡ specs.oneFrom (now (line .entry)) o ⌝ }
+{
+    let ColourAt::Read { colour, next: a } = read_colour(line, o) else {
+        return Form::Refused(4);
+    };
+    let BitsAt::Read { bits: x, next: b } = spaced_bits(line, a) else {
+        return Form::Refused(4);
+    };
+    closed(line, b, Form::One(colour, x))
 }
 
 // A `cz` with one colour twice.

@@ -12,7 +12,7 @@ use Rattle.circuit.specs.declared.Gate.{Gate}
 use Rattle.circuit.specs.declared.Gate.the-variants.{Ccz, Cz, Cnot}
 use Rattle.text.specs.Spelling.{bytes, decimal, letter, bitDigits, spelledSpot, spelledGate}
 use Rattle.text.proofs.Decimal.{Digits, decimal-digits}
-use Rattle.forms.specs.Typed.{amp, part, Typed, circuit, gate, layer, undo, start, opens, step, drop as dropped, terms}
+use Rattle.forms.specs.Typed.{amp, part, one, Typed, circuit, gate, layer, undo, start, opens, step, drop as dropped, terms}
 use Rattle.forms.specs.Spelling.{spelledGates, spelledBits, spelled, isAllowed, allAllowed}
 
 abbrev Allowed : List ℕ → Type 0
@@ -73,6 +73,7 @@ spelled-allowed (undo k) = number-allowed k (bytes ")") refl
 spelled-allowed (start r b g) = bits-allowed r _ (bits-allowed b _ (bits-allowed g (bytes ")") refl))
 spelled-allowed (opens (amp C r b g)) = rw (letter-allowed C) (bits-allowed r _ (bits-allowed b _ (bits-allowed g (bytes ")") refl)))
 spelled-allowed (opens (part C x y)) = rw (letter-allowed C) (bits-allowed x _ (bits-allowed y (bytes ")") refl))
+spelled-allowed (opens (one C x)) = rw (letter-allowed C) (bits-allowed x (bytes ")") refl)
 spelled-allowed (step k) = number-allowed k (bytes ")") refl
 spelled-allowed dropped = refl
 spelled-allowed terms = refl

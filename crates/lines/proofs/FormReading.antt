@@ -17,13 +17,13 @@ use Rattle.gates.specs.Gates.{heldGate, layerGates}
 use Rattle.forms.specs.declared.Form.{Form}
 use Rattle.forms.specs.declared.Form.the-variants as Form
 use Rattle.forms.specs.declared.Numbered.the-variants.{Circuit, Undo, Step}
-use Rattle.forms.specs.Typed.{amp, part, Typed, circuit, gate, layer, undo, start, opens, step, drop as dropped, terms, stringsOf, row}
+use Rattle.forms.specs.Typed.{amp, part, one, Typed, circuit, gate, layer, undo, start, opens, step, drop as dropped, terms, stringsOf, row}
 use Rattle.forms.specs.Spelling.{spelled, allSome, Spells, colourTwice, anyColourTwice}
 use Rattle.forms.specs.Held.{held}
-use Rattle.forms.specs.Forms.{numberedForm, numberFrom, startFrom, ampFrom, partFrom, layerFrom}
+use Rattle.forms.specs.Forms.{numberedForm, numberFrom, startFrom, ampFrom, partFrom, oneFrom, layerFrom}
 use Rattle.lines.specs.Shapes.{workShape, stringsShape, shapeOf}
 use Rattle.forms.proofs.LayerSpelling.{Gates, layer-read, layer-spelled, gates-read}
-use Rattle.forms.proofs.FormSpelling.{ended-read, number-form-read, two-strings-read, three-strings-read, gate-line-read, ended-cases, number-form-cases, two-strings-cases, three-strings-cases, gate-line-cases}
+use Rattle.forms.proofs.FormSpelling.{ended-read, number-form-read, one-string-read, two-strings-read, three-strings-read, gate-line-read, ended-cases, number-form-cases, one-string-cases, two-strings-cases, three-strings-cases, gate-line-cases}
 
 -- ---- what is spelled is read
 
@@ -32,7 +32,7 @@ abbrev pub readAs : Typed → Form
 readAs t = cond (anyColourTwice (row t .gates)) (Form.Refused 5) (held t)
 
 pub read-spelled : (t : Typed) → allSome (row t .strings) ≡ true → shapeOf (spelled t) ≡ readAs t
-unfolding shapeOf stringsShape workShape readKeyword begins spelled spelledGate row stringsOf anyColourTwice held numberedForm numberFrom startFrom ampFrom partFrom
+unfolding shapeOf stringsShape workShape readKeyword begins spelled spelledGate row stringsOf anyColourTwice held numberedForm numberFrom startFrom ampFrom partFrom oneFrom
 read-spelled (circuit m) h = number-form-read (spelled (circuit m)) 9 m Form.Circuit refl
 read-spelled (gate (Ccz i j k)) h = gate-line-read (Ccz i j k) ∙ rw (or-false (colourTwice (Ccz i j k)))
 read-spelled (gate (Cz p q)) h = gate-line-read (Cz p q) ∙ rw (or-false (colourTwice (Cz p q)))
@@ -42,6 +42,7 @@ read-spelled (undo k) h = number-form-read (spelled (undo k)) 6 k Form.Undo refl
 read-spelled (start r b g) h = three-strings-read (spelled (start r b g)) 6 r b g Form.Start h refl
 read-spelled (opens (amp C r b g)) h = colour-then _ _ _ _ _ C _ refl λ e. three-strings-read (spelled (opens (amp C r b g))) 6 r b g (Form.Amp C) h e
 read-spelled (opens (part C x y)) h = colour-then _ _ _ _ _ C _ refl λ e. two-strings-read (spelled (opens (part C x y))) 7 x y (Form.Part C) h e
+read-spelled (opens (one C x)) h = colour-then _ _ _ _ _ C _ refl λ e. one-string-read (spelled (opens (one C x))) 6 x (Form.One C) h e
 read-spelled (step k) h = number-form-read (spelled (step k)) 6 k Form.Step refl
 read-spelled dropped h = ended-read (spelled dropped) 6 Form.Drop refl
 read-spelled terms h = ended-read (spelled terms) 7 Form.Terms refl
@@ -97,6 +98,13 @@ module _ (l : List ℕ) where
       two-strings-cases Spelled l four (Form.Part C) b λ x y w r.
       spells _ (opens (part C x y)) w (whole (bytes "(part ") a _ e (c ∙ ap (λ (u : List ℕ). letter C ∷ u) r))
 
+  one-spelled : (a : ℕ) → l ≡ bytes "(one " ++ drop a l → Spelled (oneFrom l a)
+  unfolding oneFrom row stringsOf allSome spelled
+  one-spelled a e =
+      colour-cases Spelled l a (Form.Refused 4) four _ λ C b c.
+      one-string-cases Spelled l four (Form.One C) b λ x w r.
+      spells _ (opens (one C x)) w (whole (bytes "(one ") a _ e (c ∙ ap (λ (u : List ℕ). letter C ∷ u) r))
+
   layer-line-spelled : (a : ℕ) → l ≡ bytes "(layer" ++ drop a l → Spelled (layerFrom 0 0 false (drop a l))
   unfolding row stringsOf allSome spelled
   layer-line-spelled a e = go (layer-spelled (drop a l) 0 0 false)
@@ -114,12 +122,14 @@ module _ (l : List ℕ) where
       (keyword-cases Spelled l 0 _ (bytes "(start") _
       (keyword-cases Spelled l 0 _ (bytes "(amp ") _
       (keyword-cases Spelled l 0 _ (bytes "(part ") _
+      (keyword-cases Spelled l 0 _ (bytes "(one ") _
       (keyword-cases Spelled l 0 _ (bytes "(step ") _
       (keyword-cases Spelled l 0 _ (bytes "(drop)") _
       (keyword-cases Spelled l 0 _ (bytes "(terms)") _ (gate-line-cases Spelled l four λ g e. spells _ (gate g) refl e)
       (λ a e. ended-cases Spelled l four a _ λ r. spells _ terms refl (whole (bytes "(terms)") a _ e r)))
       (λ a e. ended-cases Spelled l four a _ λ r. spells _ dropped refl (whole (bytes "(drop)") a _ e r)))
       step-spelled)
+      one-spelled)
       part-spelled)
       amp-spelled)
       start-spelled)

@@ -10,7 +10,7 @@ use Rattle.text.specs.Spelling.{bytes, spelledGate, begins}
 use Rattle.text.proofs.Decimal.{value-decimal}
 use Rattle.text.proofs.BitDigits.{front-bits, after-bits}
 use Rattle.text.proofs.GatesUnique.{colour-of-letter, gate-of-spelled, gate-of-line}
-use Rattle.forms.specs.Typed.{amp, part, Typed, circuit, gate, layer, undo, start, opens, step, drop as dropped, terms}
+use Rattle.forms.specs.Typed.{amp, part, one, Typed, circuit, gate, layer, undo, start, opens, step, drop as dropped, terms}
 use Rattle.forms.specs.Spelling.{spelledGates, spelledBits, spelled}
 use Rattle.lines.specs.Readings.{gatesAfter, typedOf}
 
@@ -41,6 +41,7 @@ typed-of-spelled (undo k) = rw (value-decimal k (bytes ")") refl)
 typed-of-spelled (start r b g) = simp (front-bits, after-bits)
 typed-of-spelled (opens (amp C r b g)) = simp (front-bits, after-bits, colour-of-letter)
 typed-of-spelled (opens (part C x y)) = simp (front-bits, after-bits, colour-of-letter)
+typed-of-spelled (opens (one C x)) = simp (front-bits, colour-of-letter)
 typed-of-spelled (step k) = rw (value-decimal k (bytes ")") refl)
 typed-of-spelled dropped = refl
 typed-of-spelled terms = refl

@@ -8,7 +8,7 @@ use lib.ListN.{length, getD, drop}
 use Rattle.circuit.specs.declared.Gate.{Gate}
 use Rattle.text.specs.Spelling.{bytes, sameBytes, spelledGate, begins}
 use Rattle.text.specs.Items.{valueFrom, frontBits, pastBits, colourOf, gateOf}
-use Rattle.forms.specs.Typed.{amp, part, Typed, circuit, gate, layer, undo, start, opens, step, drop as dropped, terms, row}
+use Rattle.forms.specs.Typed.{amp, part, one, Typed, circuit, gate, layer, undo, start, opens, step, drop as dropped, terms, row}
 use Rattle.forms.specs.Spelling.{spelled, allSome, Reading, typed, refused, allAllowed, anyColourTwice}
 
 -- The gates of a layer, each after a space: `skip` bytes of the last one are still to be passed.
@@ -26,9 +26,10 @@ typedOf l =
     (cond (begins (bytes "(start") l) (start (frontBits (drop 7 l)) (frontBits (pastBits (drop 7 l))) (frontBits (pastBits (pastBits (drop 7 l)))))
     (cond (begins (bytes "(amp ") l) (opens (amp (colourOf (getD l 5 0)) (frontBits (drop 7 l)) (frontBits (pastBits (drop 7 l))) (frontBits (pastBits (pastBits (drop 7 l))))))
     (cond (begins (bytes "(part ") l) (opens (part (colourOf (getD l 6 0)) (frontBits (drop 8 l)) (frontBits (pastBits (drop 8 l)))))
+    (cond (begins (bytes "(one ") l) (opens (one (colourOf (getD l 5 0)) (frontBits (drop 7 l))))
     (cond (begins (bytes "(step ") l) (step (valueFrom 0 (drop 6 l)))
     (cond (begins (bytes "(drop)") l) dropped
-    (cond (begins (bytes "(terms)") l) terms (gate (gateOf l))))))))))
+    (cond (begins (bytes "(terms)") l) terms (gate (gateOf l)))))))))))
 
 -- Refusals 4 and 5 of a line (Manual 7.4): it is not the spelling of a form, whose bit strings have a digit at least; a `cz` has one colour twice.
 unfoldable pub shapeAs : List ℕ → Typed → Reading

@@ -1,4 +1,4 @@
--- How the code finds the form of a line: by its first bytes, three keywords at a time, and then item by item (`forms` Forms).
+-- How the code finds the form of a line: by its first bytes, a few keywords at a time, and then item by item (`forms` Forms).
 use Prim.Native.Nat.{ℕ}
 use mathlib.Core.Bool.{false}
 use mathlib.Core.List.{List}
@@ -8,7 +8,7 @@ use Rattle.text.specs.Reading.{readKeyword, afterKeyword}
 use Rattle.forms.specs.declared.Numbered.the-variants.{Circuit, Undo, Step}
 use Rattle.forms.specs.declared.Form.{Form}
 use Rattle.forms.specs.declared.Form.the-variants as Form
-use Rattle.forms.specs.Forms.{ended, numberFrom, startFrom, ampFrom, partFrom, layerFrom, gateLine}
+use Rattle.forms.specs.Forms.{ended, numberFrom, startFrom, ampFrom, partFrom, oneFrom, layerFrom, gateLine}
 
 -- Refusals 4 and 5 of a line.
 unfoldable pub workShape : List ℕ → Form
@@ -23,7 +23,9 @@ unfoldable pub stringsShape : List ℕ → Form
 stringsShape l =
     afterKeyword
     (afterKeyword
-    (afterKeyword (workShape l) (readKeyword l 0 (bytes "(part ")) (partFrom l))
+    (afterKeyword
+    (afterKeyword (workShape l) (readKeyword l 0 (bytes "(one ")) (oneFrom l))
+    (readKeyword l 0 (bytes "(part ")) (partFrom l))
     (readKeyword l 0 (bytes "(amp ")) (ampFrom l))
     (readKeyword l 0 (bytes "(start")) (startFrom l)
 

@@ -62,6 +62,9 @@ fn shape_of_strings(line: &[u8]) -> Form
     if let KeywordAt::Ends(a) = read_keyword(line, 0, b"(part ") {
         return forms::part(line, a);
     }
+    if let KeywordAt::Ends(a) = read_keyword(line, 0, b"(one ") {
+        return forms::one(line, a);
+    }
     shape_of_work(line)
 }
 

@@ -19,7 +19,7 @@ use Rattle.text.proofs.Capped.{capped-exact}
 use Rattle.gates.specs.Gates.{heldGate}
 use Rattle.forms.specs.declared.Class.{Class}
 use Rattle.forms.specs.declared.Class.the-variants as Class
-use Rattle.forms.specs.Typed.{Asked, amp, part, Typed, circuit, gate, layer, undo, start, opens, step, drop, terms, numbered, bare, building, stringsOf, row}
+use Rattle.forms.specs.Typed.{Asked, amp, part, one, Typed, circuit, gate, layer, undo, start, opens, step, drop, terms, numbered, bare, building, stringsOf, row}
 use Rattle.forms.specs.Spelling.{Reading, typed, refused}
 use Rattle.lines.specs.Readings.{readingOf}
 use Rattle.forms.specs.Held.{gateForm, held, heldReading}
@@ -148,6 +148,10 @@ two-alike : (m : ℕ) (x y : BitString) → wrongLength m (Strings.Two (heldBits
 unfolding wrongLength anyNotLong notLong heldBits
 two-alike m x y = rw or-false
 
+one-alike : (m : ℕ) (x : BitString) → wrongLength m (Strings.One (heldBits x)) ≡ anyNotLong m (x ∷ [])
+unfolding wrongLength anyNotLong notLong heldBits
+one-alike m x = rw or-false
+
 -- The held row of a line that is read as a form tells of that form.
 pub row-told : (l : List ℕ) (t : Typed) → readingOf l ≡ typed t → (r : HeldRow) × (heldRow (held t) ≡ FormRow.Row r) × Tells l t r
 unfolding heldRow held gateForm heldGate heldReading row stringsOf metGates countOf wrongLength anyNotLong
@@ -161,6 +165,7 @@ row-told l (undo k) h = (_, refl, number-told l (undo k) Class.TakesBack k 1 409
 row-told l (start r b g) h = (_, refl, strings-told l (start r b g) Class.Starts _ _ _ refl (λ m. three-alike m r b g))
 row-told l (opens (amp C r b g)) h = (_, refl, strings-told l (opens (amp C r b g)) Class.Opens _ _ _ refl (λ m. three-alike m r b g))
 row-told l (opens (part C x y)) h = (_, refl, strings-told l (opens (part C x y)) Class.Opens _ _ _ refl (λ m. two-alike m x y))
+row-told l (opens (one C x)) h = (_, refl, strings-told l (opens (one C x)) Class.Opens _ _ _ refl (λ m. one-alike m x))
 row-told l (step k) h = (_, refl, number-told l (step k) Class.Steps k 1 65536 (omega arith) (omega arith) refl)
 row-told l drop h = (_, refl, strings-told l drop Class.Drops Strings.None [] [] refl (λ m. refl))
 row-told l terms h = (_, refl, strings-told l terms Class.Lists Strings.None [] [] refl (λ m. refl))

@@ -21,6 +21,7 @@ notLong m s = not (eqb (s .len) m)
 
 unfoldable pub wrongLength : ℕ → Strings → Bool
 wrongLength m Strings.None = false
+wrongLength m (Strings.One x) = notLong m x
 wrongLength m (Strings.Two x y) = notLong m x || notLong m y
 wrongLength m (Strings.Three x y z) = notLong m x || (notLong m y || notLong m z)
 

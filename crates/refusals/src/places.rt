@@ -193,6 +193,7 @@ fn wrong_length(m: usize, strings: Strings) -> bool
 {
     match strings {
         Strings::None => false,
+        Strings::One(x) => not_long(m, x),
         Strings::Two(x, y) => not_long(m, x) || not_long(m, y),
         Strings::Three(x, y, z) => not_long(m, x) || (not_long(m, y) || not_long(m, z)),
     }

@@ -32,6 +32,7 @@ heldRow (Form.Undo k) = numberedRow Class.TakesBack k 1 4096
 heldRow (Form.Start r b g) = stringRow Class.Starts (Strings.Three r b g)
 heldRow (Form.Amp C r b g) = stringRow Class.Opens (Strings.Three r b g)
 heldRow (Form.Part C x y) = stringRow Class.Opens (Strings.Two x y)
+heldRow (Form.One C x) = stringRow Class.Opens (Strings.One x)
 heldRow (Form.Step k) = numberedRow Class.Steps k 1 65536
 heldRow Form.Drop = stringRow Class.Drops Strings.None
 heldRow Form.Terms = stringRow Class.Lists Strings.None

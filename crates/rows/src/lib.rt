@@ -8,6 +8,7 @@ use text::Bits;
 
 pub enum Strings {
     None,
+    One(Bits),
     Two(Bits, Bits),
     Three(Bits, Bits, Bits),
 }
@@ -87,6 +88,7 @@ pub fn row_of(form: Form) -> FormRow
         Form::Start(r, b, g) => with_strings(Class::Starts, Strings::Three(r, b, g)),
         Form::Amp(_, r, b, g) => with_strings(Class::Opens, Strings::Three(r, b, g)),
         Form::Part(_, x, y) => with_strings(Class::Opens, Strings::Two(x, y)),
+        Form::One(_, x) => with_strings(Class::Opens, Strings::One(x)),
         Form::Step(k) => numbered(Class::Steps, k, 1, 65536),
         Form::Drop => with_strings(Class::Drops, Strings::None),
         Form::Terms => with_strings(Class::Lists, Strings::None),

@@ -39,14 +39,29 @@ amplitude-line-requires c κs = search needs
 enum-known-answer-3 : tie.Need-enum-known-answer-3
 enum-known-answer-3 c = search needs
 
-cast-readout-line : tie.Need-cast-readout-line
-cast-readout-line c = search needs
+slice-aggregate-count-line : tie.Need-slice-aggregate-count-line
+slice-aggregate-count-line c = search needs
 
-readout-line-requires : tie.Need-readout-line-requires
-readout-line-requires c κs = search needs
+cast-count-line : tie.Need-cast-count-line
+cast-count-line c = search needs
+
+count-line-requires : tie.Need-count-line-requires
+count-line-requires c κs = search needs
 
 enum-known-answer-4 : tie.Need-enum-known-answer-4
 enum-known-answer-4 c = search needs
+
+slice-aggregate-count-line-2 : tie.Need-slice-aggregate-count-line-2
+slice-aggregate-count-line-2 c = search needs
+
+cast-count-line-2 : tie.Need-cast-count-line-2
+cast-count-line-2 c = search needs
+
+count-line-requires-2 : tie.Need-count-line-requires-2
+count-line-requires-2 c κs = search needs
+
+enum-known-answer-5 : tie.Need-enum-known-answer-5
+enum-known-answer-5 c = search needs
 
 slice-aggregate-number-line-2 : tie.Need-slice-aggregate-number-line-2
 slice-aggregate-number-line-2 c = search needs
@@ -54,14 +69,14 @@ slice-aggregate-number-line-2 c = search needs
 number-line-requires-2 : tie.Need-number-line-requires-2
 number-line-requires-2 c κs = search needs
 
-enum-known-answer-5 : tie.Need-enum-known-answer-5
-enum-known-answer-5 c = search needs
+enum-known-answer-6 : tie.Need-enum-known-answer-6
+enum-known-answer-6 c = search needs
 
 gate-line-requires : tie.Need-gate-line-requires
 gate-line-requires c κs = search needs
 
-enum-known-answer-6 : tie.Need-enum-known-answer-6
-enum-known-answer-6 c = search needs
+enum-known-answer-7 : tie.Need-enum-known-answer-7
+enum-known-answer-7 c = search needs
 
 slice-aggregate-number-line-3 : tie.Need-slice-aggregate-number-line-3
 slice-aggregate-number-line-3 c = search needs
@@ -86,19 +101,24 @@ returns-3 c =
     (rw (toZ-ofZ f) at (c .amplitude-line .ensures)) ∙ ap (λ x. textOf (bytesOf x)) (sym (c .before .before .answer2 .given .1))
 
 returns-4 : tie.Need-returns-4
-returns-4 c = c .readout-line .ensures ∙ ap (λ x. textOf (bytesOf x)) (sym (c .before .before .answer3 .given .1))
+unfolding bytesOf
+returns-4 c = c .count-line .ensures ∙ ap (λ x. textOf (bytesOf x)) (sym (c .before .before .before .answer3 .given .1))
 
 returns-5 : tie.Need-returns-5
 unfolding bytesOf
-returns-5 c = c .number-line2 .ensures ∙ ap (λ x. textOf (bytesOf x)) (sym (c .before .before .before .answer4 .given .1))
+returns-5 c = c .count-line2 .ensures ∙ ap (λ x. textOf (bytesOf x)) (sym (c .before .before .before .answer4 .given .1))
 
 returns-6 : tie.Need-returns-6
 unfolding bytesOf
-returns-6 c = c .gate-line .ensures ∙ ap (λ x. textOf (bytesOf x)) (sym (c .before .before .answer5 .given .1))
+returns-6 c = c .number-line2 .ensures ∙ ap (λ x. textOf (bytesOf x)) (sym (c .before .before .before .answer5 .given .1))
 
 returns-7 : tie.Need-returns-7
 unfolding bytesOf
-returns-7 c = c .number-line3 .ensures ∙ ap (λ x. textOf (bytesOf x)) (sym (c .before .before .before .answer6 .given .1))
+returns-7 c = c .gate-line .ensures ∙ ap (λ x. textOf (bytesOf x)) (sym (c .before .before .answer6 .given .1))
+
+returns-8 : tie.Need-returns-8
+unfolding bytesOf
+returns-8 c = c .number-line3 .ensures ∙ ap (λ x. textOf (bytesOf x)) (sym (c .before .before .before .answer7 .given .1))
 
 pub line-of-spec : {M : Type 1} → statement M
 line-of-spec =
@@ -114,14 +134,19 @@ line-of-spec =
     cast-amplitude-line
     amplitude-line-requires
     enum-known-answer-3
-    cast-readout-line
-    readout-line-requires
+    slice-aggregate-count-line
+    cast-count-line
+    count-line-requires
     enum-known-answer-4
+    slice-aggregate-count-line-2
+    cast-count-line-2
+    count-line-requires-2
+    enum-known-answer-5
     slice-aggregate-number-line-2
     number-line-requires-2
-    enum-known-answer-5
-    gate-line-requires
     enum-known-answer-6
+    gate-line-requires
+    enum-known-answer-7
     slice-aggregate-number-line-3
     cast-number-line
     number-line-requires-3
@@ -131,4 +156,5 @@ line-of-spec =
     returns-4
     returns-5
     returns-6
-    returns-7)
+    returns-7
+    returns-8)

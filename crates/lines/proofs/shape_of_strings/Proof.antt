@@ -1,4 +1,4 @@
--- Three keywords are tried in the order of `stringsShape`, and then the other forms.
+-- Four keywords are tried in the order of `stringsShape`, and then the other forms.
 use mathlib.Core.Path.{sym, _∙_}
 use Rattle.lines.specs.Shapes.{stringsShape}
 use borrow.Author.Needs.{needs}
@@ -78,19 +78,51 @@ returns-3 c =
 enum-told-3 : tie.Need-enum-told-3
 enum-told-3 c = search needs
 
-shape-of-work-requires : tie.Need-shape-of-work-requires
-shape-of-work-requires c κs = search needs
+slice-aggregate-read-keyword-4 : tie.Need-slice-aggregate-read-keyword-4
+slice-aggregate-read-keyword-4 c = search needs
+
+read-keyword-requires-4 : tie.Need-read-keyword-requires-4
+read-keyword-requires-4 c κs = search needs
+
+enum-known-a-4 : tie.Need-enum-known-a-4
+enum-known-a-4 c = search needs
+
+one-requires : tie.Need-one-requires
+one-requires c κs = search needs
 
 returns-4 : tie.Need-returns-4
 unfolding stringsShape
 returns-4 c =
-    let third = c .before in
+    let fourth = c .before .before in
+    let third = fourth .before .before .before .before in
     let second = third .before .before .before .before in
     let first = second .before .before .before .before in
     rw (
       sym (first .before .before .read-keyword .ensures) ∙ first .enum-told .given .1,
       sym (second .before .before .read-keyword2 .ensures) ∙ second .enum-told2 .given .1,
       sym (third .before .before .read-keyword3 .ensures) ∙ third .enum-told3 .given .1,
+      sym (fourth .before .before .read-keyword4 .ensures) ∙ fourth .a4 .given .1,
+    )
+    (c .one .ensures)
+
+enum-told-4 : tie.Need-enum-told-4
+enum-told-4 c = search needs
+
+shape-of-work-requires : tie.Need-shape-of-work-requires
+shape-of-work-requires c κs = search needs
+
+returns-5 : tie.Need-returns-5
+unfolding stringsShape
+returns-5 c =
+    let fourth = c .before in
+    let third = fourth .before .before .before .before in
+    let second = third .before .before .before .before in
+    let first = second .before .before .before .before in
+    rw (
+      sym (first .before .before .read-keyword .ensures) ∙ first .enum-told .given .1,
+      sym (second .before .before .read-keyword2 .ensures) ∙ second .enum-told2 .given .1,
+      sym (third .before .before .read-keyword3 .ensures) ∙ third .enum-told3 .given .1,
+      sym (fourth .before .before .read-keyword4 .ensures) ∙ fourth .enum-told4 .given .1,
     )
     (c .shape-of-work .ensures)
 
@@ -116,5 +148,11 @@ shape-of-strings-spec =
     part-requires
     returns-3
     enum-told-3
+    slice-aggregate-read-keyword-4
+    read-keyword-requires-4
+    enum-known-a-4
+    one-requires
+    returns-4
+    enum-told-4
     shape-of-work-requires
-    returns-4)
+    returns-5)

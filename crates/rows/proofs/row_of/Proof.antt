@@ -61,23 +61,29 @@ with-strings-requires-3 c κs = search needs
 enum-known-form-10 : tie.Need-enum-known-form-10
 enum-known-form-10 c = search needs
 
+with-strings-requires-4 : tie.Need-with-strings-requires-4
+with-strings-requires-4 c κs = search needs
+
+enum-known-form-11 : tie.Need-enum-known-form-11
+enum-known-form-11 c = search needs
+
 numbered-requires-3 : tie.Need-numbered-requires-3
 numbered-requires-3 c κs = search needs
 
 enum-told : tie.Need-enum-told
 enum-told c = search needs
 
-with-strings-requires-4 : tie.Need-with-strings-requires-4
-with-strings-requires-4 c κs = search needs
+with-strings-requires-5 : tie.Need-with-strings-requires-5
+with-strings-requires-5 c κs = search needs
 
 enum-told-2 : tie.Need-enum-told-2
 enum-told-2 c = search needs
 
-with-strings-requires-5 : tie.Need-with-strings-requires-5
-with-strings-requires-5 c κs = search needs
+with-strings-requires-6 : tie.Need-with-strings-requires-6
+with-strings-requires-6 c κs = search needs
 
-enum-known-form-11 : tie.Need-enum-known-form-11
-enum-known-form-11 c = search needs
+enum-known-form-12 : tie.Need-enum-known-form-12
+enum-known-form-12 c = search needs
 
 returns : tie.Need-returns
 unfolding heldRow
@@ -117,19 +123,23 @@ returns-9 c = rw (c .before .before .form9 .given .1) (c .with-strings3 .ensures
 
 returns-10 : tie.Need-returns-10
 unfolding heldRow
-returns-10 c = rw (c .before .before .form10 .given .1) (c .numbered3 .ensures)
+returns-10 c = rw (c .before .before .form10 .given .1) (c .with-strings4 .ensures)
 
 returns-11 : tie.Need-returns-11
 unfolding heldRow
-returns-11 c = rw (c .before .enum-told .given .1) (c .with-strings4 .ensures)
+returns-11 c = rw (c .before .before .form11 .given .1) (c .numbered3 .ensures)
 
 returns-12 : tie.Need-returns-12
 unfolding heldRow
-returns-12 c = rw (c .before .enum-told2 .given .1) (c .with-strings5 .ensures)
+returns-12 c = rw (c .before .enum-told .given .1) (c .with-strings5 .ensures)
 
 returns-13 : tie.Need-returns-13
 unfolding heldRow
-returns-13 c = rw (c .before .form11 .given .1)
+returns-13 c = rw (c .before .enum-told2 .given .1) (c .with-strings6 .ensures)
+
+returns-14 : tie.Need-returns-14
+unfolding heldRow
+returns-14 c = rw (c .before .form12 .given .1)
 
 pub row-of-spec : {M : Type 1} → statement M
 row-of-spec =
@@ -154,12 +164,14 @@ row-of-spec =
     enum-known-form-9
     with-strings-requires-3
     enum-known-form-10
+    with-strings-requires-4
+    enum-known-form-11
     numbered-requires-3
     enum-told
-    with-strings-requires-4
-    enum-told-2
     with-strings-requires-5
-    enum-known-form-11
+    enum-told-2
+    with-strings-requires-6
+    enum-known-form-12
     returns
     returns-2
     returns-3
@@ -172,4 +184,5 @@ row-of-spec =
     returns-10
     returns-11
     returns-12
-    returns-13)
+    returns-13
+    returns-14)

@@ -1,13 +1,9 @@
 -- A word, two numbers and the bracket.
 use mathlib.Core.List.{append-assoc}
 use borrow.Author.Needs.{needs}
-use Rattle.answers.specs.Answers.{bytesOf}
 use Rattle.writing.proofs.Texts.{text-joined}
-use Rattle.answers.proofs.readout_line.Statement.{statement}
-use Rattle.answers.proofs.readout_line.Tie as tie
-
-slice-aggregate-text-of : tie.Need-slice-aggregate-text-of
-slice-aggregate-text-of c = search needs
+use Rattle.answers.proofs.count_line.Statement.{statement}
+use Rattle.answers.proofs.count_line.Tie as tie
 
 text-of-requires : tie.Need-text-of-requires
 text-of-requires c κs = search needs
@@ -22,7 +18,6 @@ push-byte-requires : tie.Need-push-byte-requires
 push-byte-requires c κs = search needs
 
 returns : tie.Need-returns
-unfolding bytesOf
 returns c =
     simp (
       c .push-byte .ensures,
@@ -33,6 +28,6 @@ returns c =
       append-assoc,
     )
 
-pub readout-line-spec : {M : Type 1} → statement M
-readout-line-spec =
-    tie.close (tie.spec slice-aggregate-text-of text-of-requires push-number-requires push-spaced-requires push-byte-requires returns)
+pub count-line-spec : {M : Type 1} → statement M
+count-line-spec =
+    tie.close (tie.spec text-of-requires push-number-requires push-spaced-requires push-byte-requires returns)
