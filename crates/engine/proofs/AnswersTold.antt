@@ -24,12 +24,14 @@ unfolding refusalNumber ended
 ended-number m Total.Closed = refl
 ended-number m (Total.Amplitude s) = refl
 ended-number m (Total.Readout t) = refl
+ended-number m (Total.OneColour t) = refl
 
 ended-lines : (m : ℕ) (t : Total) → hasLines (ended m t) ≡ false
 unfolding hasLines ended
 ended-lines m Total.Closed = refl
 ended-lines m (Total.Amplitude s) = refl
 ended-lines m (Total.Readout t) = refl
+ended-lines m (Total.OneColour t) = refl
 
 step-number : (o : Opened) (k : ℕ) → refusalNumber (stepAnswer o k) ≡ 0
 unfolding refusalNumber stepAnswer

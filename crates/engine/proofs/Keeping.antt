@@ -28,7 +28,7 @@ use Rattle.engine.specs.declared.Reply.{Reply}
 use Rattle.engine.specs.Engine.{Engine, freshEngine}
 use Rattle.engine.specs.Calls.{encode, Holds, answering, tooShort, skipped, Response, response, Given}
 use Rattle.engine.specs.Answering.{refusalNumber}
-use Rattle.turns.proofs.Views.{one, many, View, refuses, creates, adds, takesBack, starts, opensSum, worksOn, finishes, drops, lists, view}
+use Rattle.turns.proofs.Views.{single, several, View, refuses, creates, adds, takesBack, starts, opensSum, worksOn, finishes, drops, lists, view}
 use Rattle.engine.proofs.AnswersTold.{ended-number, turn-number}
 
 -- ---- soundness
@@ -96,8 +96,8 @@ stored-kept :
 unfolding historyAfter refusalNumber gatesIn row newCircuit withNewStart
 stored-kept (refuses {n = n}) s = rw (ne-eqb (suc n) 0 (λ z. omega arith)) s
 stored-kept {h = h} (creates {c = c} i low high) s = rw (stored-none (length (c .gates)) h) (record { codes = refl; room = omega arith })
-stored-kept {h = h} (adds {c = c} (one {g}) v w) s = roomy-more c (g ∷ []) h s w
-stored-kept {h = h} (adds {c = c} (many {gs}) v w) s = roomy-more c gs h s w
+stored-kept {h = h} (adds {c = c} (single {g}) v w) s = roomy-more c (g ∷ []) h s w
+stored-kept {h = h} (adds {c = c} (several {gs}) v w) s = roomy-more c gs h s w
 stored-kept {h = h} (takesBack {c = c} {k = k}) s = rw (stored-none (length (c .gates)) h) (roomy-less c k h s)
 stored-kept {h = h} (starts {c = c} long) s = rw (stored-none (length (c .gates)) h) s
 stored-kept {h = h} (opensSum {c = c} some long) s = rw (stored-none (length (c .gates)) h) s

@@ -66,7 +66,8 @@ fn ask_all(state: State, history: &mut [u32], text: &[u8]) -> State {
     }
 }
 
-// Known sums (Manual 14): no gates; one CCZ, and its readouts with red unread; the CCZ twice; one CZ; a CCZ and then a CNOT; a CNOT and then a CCZ.
+// Known sums (Manual 14): no gates; one CCZ, its readouts with red unread, and only green read; the CCZ twice; one CZ; a CCZ and then a CNOT;
+// a CNOT and then a CCZ.
 fn sums(state: State, history: &mut [u32]) -> State {
     ask_all(
         state,
@@ -74,6 +75,7 @@ fn sums(state: State, history: &mut [u32]) -> State {
         b"(circuit 1)\n(amp r 0 0 0)\n(step 2)\n(amp r 1 0 0)\n(step 2)\n\
         (circuit 1)\n(ccz 1 1 1)\n(amp r 0 0 0)\n(step 2)\n(amp b 1 0 0)\n(step 2)\n(amp g 1 1 0)\n(step 2)\n(amp r 1 1 1)\n(step 2)\n\
         (part r 0 0)\n(step 2)\n(part r 0 1)\n(step 2)\n(part r 1 0)\n(step 2)\n(part r 1 1)\n(step 2)\n\
+        (one g 0)\n(step 2)\n(one g 1)\n(step 2)\n\
         (ccz 1 1 1)\n(amp r 0 0 0)\n(step 2)\n\
         (circuit 1)\n(cz (r 1) (b 1))\n(amp r 0 0 0)\n(step 2)\n(amp b 1 1 0)\n(step 2)\n(amp g 0 0 1)\n(step 2)\n\
         (circuit 2)\n(ccz 1 1 1)\n(cnot r 2 1)\n(terms)\n(amp r 00 00 00)\n(step 4)\n(amp b 11 00 00)\n(step 4)\n(amp g 10 00 00)\n(step 4)\n\

@@ -56,6 +56,7 @@ refusalIn (Form.Undo k) = 0
 refusalIn (Form.Start r b g) = 0
 refusalIn (Form.Amp C r b g) = 0
 refusalIn (Form.Part C x y) = 0
+refusalIn (Form.One C x) = 0
 refusalIn (Form.Step k) = 0
 refusalIn Form.Drop = 0
 refusalIn Form.Terms = 0

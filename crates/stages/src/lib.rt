@@ -11,7 +11,7 @@ ghost use Rattle.held.specs.Circuit.{Circuit, newCircuit, withNewStart};
 ghost use Rattle.held.specs.Memory.{numbersOf, encodeCircuit, SoundCircuit};
 ghost use Rattle.text.specs.declared.Bits.{Bits};
 ghost use Rattle.gates.specs.Gates.{gatesMet};
-ghost use Rattle.forms.specs.Typed.{amp, part, opens, step, drop, terms};
+ghost use Rattle.forms.specs.Typed.{amp, part, one, opens, step, drop, terms};
 ghost use Rattle.sums.specs.Sums.{Opened, closed, encodeSum};
 ghost use Rattle.stages.specs.Stages.{gives, accepted};
 ghost use Rattle.stages.specs.Promises.{Done, Does, Builds, TakesBack, givenBack};
@@ -202,6 +202,17 @@ pub fn readout_turn(circuit: Held, sum: Sum, form: Form) -> Turn
         circuit,
         sums::open_readout(circuit, colour, x.value, y.value),
     )
+}
+
+pub fn one_colour_turn(circuit: Held, sum: Sum, form: Form) -> Turn
+    ensures { λ t. ⌜ ((C : Colour) (x : Bits) → form ≡ Form.One C x →
+        Does (λ c o. accepted c o (opens (one C (highFirst (c .m) (x .value))))) circuit sum t) ⌝ }
+    ensures { λ t. ⌜ (((C : Colour) (x : Bits) → form ≡ Form.One C x → ⊥) → t ≡ givenBack circuit sum form) ⌝ }
+{
+    let Form::One(colour, x) = form else {
+        return turned_back(circuit, sum, form);
+    };
+    with_sum(circuit, sums::open_one_colour(circuit, colour, x.value))
 }
 
 pub fn step_turn(circuit: Held, sum: Sum, form: Form) -> Turn

@@ -1,18 +1,19 @@
--- The open sum (Manual 3.4, 5.8 to 5.10): what it was opened for, the slices worked, what exactly these add up to, and its end.
+-- The open sum (Manual 3.4, 5.8 to 5.10, 5.13): what it was opened for, the slices worked, what exactly these add up to, and its end.
 use mathlib.Core.Bool.{Bool, true, false, cond}
 use Prim.Native.Nat.{ℕ, _+_, _-_, _*_, _^_}
 use lib.Dec.{ltb}
 use lib.ListN.{replicate}
 use Rattle.gf2.specs.Strings.{_⊞_}
-use Rattle.circuit.specs.Colours.{first, second}
+use Rattle.circuit.specs.Colours.{the, first, second, colours}
 use Rattle.circuit.specs.Polynomial.{polynomial}
 use Rattle.slices.specs.Totals.{amplitudeAfter, readoutAfter, withStart}
+use Rattle.slices.specs.OneColour.{oneAfter}
 use Rattle.held.specs.Circuit.{Circuit}
-use Rattle.forms.specs.Typed.{Asked, amp, part}
+use Rattle.forms.specs.Typed.{Asked, amp, part, one}
 use Rattle.answers.specs.declared.Answer.{Answer}
 use Rattle.answers.specs.declared.Answer.the-variants as Answer
 use Rattle.sums.specs.declared.Total.{Total}
-use Rattle.sums.specs.declared.Total.the-variants.{Closed, Amplitude, Readout}
+use Rattle.sums.specs.declared.Total.the-variants.{Closed, Amplitude, Readout, OneColour}
 use Rattle.sums.specs.declared.Sum.{Sum}
 use Rattle.sums.specs.Tables.{tableFor}
 
@@ -31,12 +32,14 @@ isRunning closed = false
 isRunning (running o) = true
 
 -- What the first w slices add up to: the signed total of an `amp` (Manual 3.5), the readout count of a `part` (Manual 3.6), whose X and Y are those
--- of the other two colours in order. The circuit's start is added to the output string (Manual 1.6).
+-- of the other two colours in order, the count of a `one` by the slices of the first unread colour (Manual 3.7). The circuit's start is added to
+-- the output string (Manual 1.6).
 unfoldable pub totalAfter : Asked → Circuit → ℕ → Total
 totalAfter (amp C r b g) c w =
     Amplitude (amplitudeAfter (c .m) (polynomial (c .gates)) C (withStart (c .start) (record { red = r; blue = b; green = g })) w)
 totalAfter (part C x y) c w =
     Readout (readoutAfter (c .m) (polynomial (c .gates)) C (x ⊞ first C (c .start)) (y ⊞ second C (c .start)) w)
+totalAfter (one C x) c w = OneColour (oneAfter (c .m) (polynomial (c .gates)) C (first C colours) (x ⊞ the C (c .start)) w)
 
 -- The fields of the state: what exactly the slices worked add up to, how many they are, and the table that slices are read from.
 unfoldable pub encodeSum : Opened → Sum
@@ -44,13 +47,14 @@ encodeSum closed = record { total = Closed; worked = 0; table = replicate 102 0 
 encodeSum (running o) =
     record { total = totalAfter (o .asked) (o .circuit) (o .worked); worked = o .worked; table = tableFor (o .asked) (o .circuit) }
 
--- The answer to the step that ends a sum: `(amp S n)` or `(part T n)`, n = 3m (Manual 6.1).
+-- The answer to the step that ends a sum: `(amp S n)` or `(part T n)`, n = 3m, or `(one N k)`, k = 2m (Manual 6.1).
 unfoldable pub ended : ℕ → Total → Answer
 ended m (Amplitude s) = Answer.Amplitude s (3 * m)
 ended m (Readout t) = Answer.Readout t (3 * m)
+ended m (OneColour t) = Answer.OneColour t (2 * m)
 ended m Closed = Answer.Ok
 
--- A sum is opened with no slice worked (Manual 5.8, 5.9).
+-- A sum is opened with no slice worked (Manual 5.8, 5.9, 5.13).
 unfoldable pub opening : Circuit → Asked → Opened
 opening c q = running (record { asked = q; circuit = c; worked = 0 })
 

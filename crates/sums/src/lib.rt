@@ -3,16 +3,25 @@ ghost use mathlib.Core.Bool.{cond};
 ghost use mathlib.Core.Path.{_≡_};
 ghost use Prim.Native.Nat.{ℕ, _+_, _^_, _≤_};
 ghost use lib.Dec.{leb};
+ghost use Rattle.gf2.specs.Strings.{_⊞_};
 ghost use Rattle.gf2.specs.Digits.{highFirst};
+ghost use Rattle.circuit.specs.Colours.{the, first, colours};
+ghost use Rattle.circuit.specs.Polynomial.{Polynomial, polynomial};
+ghost use Rattle.circuit.specs.Sum.{Basis};
+ghost use Rattle.polynomial.specs.Words.{wordsOf};
+ghost use Rattle.tables.specs.Packing.{strings, withOutput, tableOf};
+ghost use Rattle.slices.specs.Totals.{withStart};
 ghost use Rattle.held.specs.Circuit.{Circuit};
-ghost use Rattle.held.specs.Memory.{encodeCircuit, SoundCircuit};
-ghost use Rattle.forms.specs.Typed.{Asked, amp, part};
-ghost use Rattle.sums.specs.Tables.{sliced, output, tableFor};
+ghost use Rattle.held.specs.Memory.{Long, numbersOf, encodeCircuit, SoundCircuit};
+ghost use Rattle.forms.specs.Typed.{Asked, amp, part, one};
+ghost use Rattle.sums.specs.Tables.{output, tableFor};
 ghost use Rattle.sums.specs.Sums.{OpenSum, Opened, closed, running, isRunning, totalAfter, encodeSum, ended, opening, stepped, stepAnswer};
 ghost use Rattle.sums.specs.Soundness.{SoundSum, SoundOpened};
 use answers::Answer;
 use circuit::Colour;
 use held::Held;
+use held::Numbers;
+use polynomial::WORDS;
 use tables::table::TABLE;
 
 // What the slices worked add up to, by what the sum was opened for.
@@ -21,6 +30,7 @@ pub enum Total {
     Closed,
     Amplitude(i64),
     Readout(u64),
+    OneColour(u64),
 }
 
 pub struct Sum {
@@ -55,6 +65,7 @@ pub fn is_open(sum: Sum) -> bool
         Total::Closed => false,
         Total::Amplitude(_) => true,
         Total::Readout(_) => true,
+        Total::OneColour(_) => true,
     }
 }
 
@@ -67,8 +78,8 @@ pub fn slice_count(m: usize) -> usize
 
 // The table of the circuit's polynomial with an output string, the start's ones added.
 fn table_of(held: Held, colour: Colour, r: u32, b: u32, g: u32) -> [u64; TABLE]
-    ensures { λ t. ⌜ ((c : Circuit) (q : Asked) → held ≡ encodeCircuit c → SoundCircuit c → colour ≡ sliced q →
-        output (c .m) q ≡ record { red = highFirst (c .m) r; blue = highFirst (c .m) b; green = highFirst (c .m) g } → t ≡ tableFor q c) ⌝ }
+    ensures { λ t. ⌜ ((c : Circuit) → held ≡ encodeCircuit c → SoundCircuit c →
+        t ≡ tableOf colour (withOutput (withStart (c .start) (strings (c .m) r b g)) (polynomial (c .gates)))) ⌝ }
 {
     let start = held.start;
     let words = held.polynomial;
@@ -118,6 +129,51 @@ pub fn open_readout(held: Held, colour: Colour, x: u32, y: u32) -> Sum
     }
 }
 
+// The colour that is sliced where only one is read: the first of the other two.
+fn first_unread(read: Colour) -> Colour
+    ensures { λ r. ⌜ r ≡ first read colours ⌝ }
+{
+    match read {
+        Colour::Red => Colour::Blue,
+        Colour::Blue => Colour::Red,
+        Colour::Green => Colour::Red,
+    }
+}
+
+// The words with the string of the colour that is read, its start's ones added, and zeros for the other two.
+fn with_read(words: [u32; WORDS], m: usize, start: Numbers, read: Colour, x: u32) -> [u32; WORDS]
+    ensures { λ s. ⌜ ((f : Polynomial) (t : Basis) → words ≡ wordsOf f → start ≡ numbersOf t → Long m t → m ≤ 16 →
+        s ≡ wordsOf (withOutput (output m (one read (highFirst m x ⊞ the read t))) f)) ⌝ }
+{
+    match read {
+        Colour::Red => tables::output::with_output(words, m, x ^ start.red, 0, 0),
+        Colour::Blue => tables::output::with_output(words, m, 0, x ^ start.blue, 0),
+        Colour::Green => tables::output::with_output(words, m, 0, 0, x ^ start.green),
+    }
+}
+
+// The table where only one colour is read: that of the terms that hold a position of it.
+fn table_of_one(held: Held, read: Colour, x: u32) -> [u64; TABLE]
+    ensures { λ t. ⌜ ((c : Circuit) → held ≡ encodeCircuit c → SoundCircuit c → t ≡ tableFor (one read (highFirst (c .m) x)) c) ⌝ }
+{
+    let start = held.start;
+    let words = held.polynomial;
+    let terms = tables::terms::holding(words, read);
+    let seen = with_read(terms, held.m, start, read, x);
+    tables::table::table(seen, first_unread(read))
+}
+
+// `(one C X)`, by the number of the string.
+pub fn open_one_colour(held: Held, read: Colour, x: u32) -> Sum
+    ensures { λ s. ⌜ ((c : Circuit) → held ≡ encodeCircuit c → SoundCircuit c → s ≡ encodeSum (opening c (one read (highFirst (c .m) x)))) ⌝ }
+{
+    Sum {
+        total: Total::OneColour(0),
+        worked: 0,
+        table: table_of_one(held, read, x),
+    }
+}
+
 // The total with `count` more slices, from slice `from` on.
 fn with_slices(total: Total, table: [u64; TABLE], m: usize, from: usize, count: usize) -> Total
     ensures { λ t. ⌜ ((o : OpenSum) → SoundSum m o → from ≡ o .worked → total ≡ totalAfter (o .asked) (o .circuit) from → table ≡ tableFor (o .asked) (o .circuit) →
@@ -127,6 +183,7 @@ fn with_slices(total: Total, table: [u64; TABLE], m: usize, from: usize, count: 
         Total::Closed => total,
         Total::Amplitude(s) => Total::Amplitude(totals::amplitude(table, m, from, count, s)),
         Total::Readout(t) => Total::Readout(totals::readout(table, m, from, count, t)),
+        Total::OneColour(t) => Total::OneColour(totals::one_colour(table, m, from, count, t)),
     }
 }
 
@@ -139,6 +196,7 @@ fn answer_of(total: Total, m: usize) -> Answer
         Total::Closed => Answer::Ok,
         Total::Amplitude(s) => Answer::Amplitude(s, (3 * m) as u32),
         Total::Readout(t) => Answer::Readout(t, (3 * m) as u32),
+        Total::OneColour(t) => Answer::OneColour(t, (2 * m) as u32),
     }
 }
 

@@ -8,7 +8,7 @@ use lib.Dec.{eqb}
 use lib.ListN.{length}
 use Rattle.lines.specs.Readings.{readingOf}
 use Rattle.answers.specs.declared.Answer.{Answer}
-use Rattle.answers.specs.declared.Answer.the-variants.{Ok, Left, Amplitude, Readout, Terms, Listed, Refused}
+use Rattle.answers.specs.declared.Answer.the-variants.{Ok, Left, Amplitude, Readout, OneColour, Terms, Listed, Refused}
 use Rattle.answers.specs.Answers.{bytesOf}
 use Rattle.turns.specs.Turns.{turnOf}
 use Rattle.engine.specs.Engine.{Engine}
@@ -21,6 +21,7 @@ bytes-some Ok = omega arith
 bytes-some (Left l) = omega arith
 bytes-some (Amplitude s n) = omega arith
 bytes-some (Readout t n) = omega arith
+bytes-some (OneColour t n) = omega arith
 bytes-some (Terms n) = omega arith
 bytes-some (Listed g) = spelled-some g
 bytes-some (Refused e) = omega arith

@@ -1,4 +1,4 @@
--- Demand 3 for the program (Manual 11.7): on any input, what `session` says is what a run of the engine shows, and the run is sound.
+-- Demand 3 for the program (Manual 11.8): on any input, what `session` says is what a run of the engine shows, and the run is sound.
 use mathlib.Core.Bool.{cond}
 use mathlib.Core.List.{List, [], _∷_, _++_}
 use mathlib.Core.Path.{_≡_}

@@ -10,15 +10,17 @@ use lib.Dec.{ltb}
 use lib.IntN.{natAbs}
 use lib.ListN.{length, length-append}
 use lib.Pow.{pow-add, pow-lt}
+use Rattle.gf2.specs.Strings.{BitString}
 use Rattle.circuit.specs.declared.Colour.{Colour}
 use Rattle.circuit.specs.Sum.{Basis}
 use Rattle.circuit.specs.Polynomial.{Term, Polynomial, polynomial}
 use Rattle.listing.specs.Listing.{overPositions, triples, pairsBeside, everyTerm, among, listing}
 use Rattle.slices.specs.Totals.{amplitudeAfter, readoutCount}
-use Rattle.slices.proofs.Bounds.{amplitudeAfter-bound, readoutCount-bound}
+use Rattle.slices.specs.OneColour.{oneAfter}
+use Rattle.slices.proofs.Bounds.{amplitudeAfter-bound, readoutCount-bound, oneAfter-bound}
 use Rattle.held.specs.Circuit.{Circuit}
 use Rattle.held.specs.Memory.{SoundCircuit}
-use Rattle.forms.specs.Typed.{Asked, amp, part, Typed, circuit, gate, layer, undo, start, opens, step, drop, terms}
+use Rattle.forms.specs.Typed.{Asked, amp, part, one, Typed, circuit, gate, layer, undo, start, opens, step, drop, terms}
 use Rattle.forms.specs.Spelling.{Reading, typed, refused}
 use Rattle.lines.specs.Readings.{readingOf}
 use Rattle.lines.proofs.Readings.{refused-among}
@@ -107,10 +109,16 @@ amplitude-most m f C s =
     three : (m : ℕ) → m + 2 * m ≡ 3 * m
     three m = omega arith
 
+one-most : (m : ℕ) (f : Polynomial) (C D : Colour) (X : BitString) → m ≤ 16 → oneAfter m f C D X (2 ^ m) < 2 ^ 49
+one-most m f C D X h =
+    lt-of-le-of-lt (oneAfter-bound m f C D X (2 ^ m))
+    (subst (λ (n : ℕ). n < 2 ^ 49) (pow-add 2 m m) (pow-lt {i = m + m} {j = 49} (omega arith)))
+
 total-modest : (q : Asked) (c : Circuit) → c .m ≤ 16 → Modest (ended (c .m) (totalAfter q c (2 ^ c .m)))
 unfolding ended totalAfter readoutCount
 total-modest (amp C r b g) c h = (sum-modest (c .m) _ h (amplitude-most (c .m) _ _ _), omega arith)
 total-modest (part C x y) c h = (sum-modest (c .m) _ h (readoutCount-bound (c .m) _ C _ _), omega arith)
+total-modest (one C x) c h = (one-most (c .m) _ C _ _ h, omega arith)
 
 -- ---- the answers
 

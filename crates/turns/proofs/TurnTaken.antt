@@ -26,12 +26,12 @@ use Rattle.text.proofs.BitNumbers.{held-exactly}
 use Rattle.gates.specs.Gates.{heldGate, gatesMet}
 use Rattle.forms.specs.declared.Form.{Form}
 use Rattle.forms.specs.declared.Form.the-variants as Form
-use Rattle.forms.specs.Typed.{amp, part, Typed, circuit, undo, start, opens, step, drop, terms, stringsOf, row}
+use Rattle.forms.specs.Typed.{amp, part, one, Typed, circuit, undo, start, opens, step, drop, terms, stringsOf, row}
 use Rattle.forms.specs.Spelling.{typed}
 use Rattle.lines.specs.Readings.{readingOf}
 use Rattle.forms.specs.Held.{held, heldReading}
 use Rattle.lines.proofs.Readings.{form-read}
-use Rattle.forms.proofs.HeldForms.{HeldAs, circuits, cczs, czs, cnots, layers, undos, starts, amps, parts, steps, drops, lists, held-as}
+use Rattle.forms.proofs.HeldForms.{HeldAs, circuits, cczs, czs, cnots, layers, undos, starts, amps, parts, ones, steps, drops, lists, held-as}
 use Rattle.lines.proofs.LayerLine.{handed-on, layer-walked}
 use Rattle.answers.specs.declared.Answer.the-variants as Answer
 use Rattle.refusals.specs.Refusals.{allInRange, places, refusalBy}
@@ -44,18 +44,18 @@ use Rattle.turns.specs.Turns.{refusalOf}
 use Rattle.stages.specs.Promises.{Done, Does, Builds, TakesBack}
 use Rattle.turns.specs.Promises.{Free, Taken}
 use Rattle.turns.proofs.Passing.{Passes, passes}
-use Rattle.turns.proofs.Views.{Building, one, many, two-long, three-long}
+use Rattle.turns.proofs.Views.{Building, single, several, one-long, two-long, three-long}
 use Rattle.turns.proofs.HeldGates.{gates-by-tests}
 
 building-gates : {t : Typed} {gs : List Gate} → Building t gs → row t .gates ≡ gs
 unfolding row
-building-gates one = refl
-building-gates many = refl
+building-gates single = refl
+building-gates several = refl
 
 building-accepted : {t : Typed} {gs : List Gate} (c : Circuit) (o : Opened) → Building t gs → accepted c o t ≡ gives (withGates gs c) o Answer.Ok
 unfolding accepted
-building-accepted c o one = refl
-building-accepted c o many = refl
+building-accepted c o single = refl
+building-accepted c o several = refl
 
 -- A string of m bits is held exactly, and its number has its digits.
 digits-held : (m : ℕ) (s : BitString) → m ≤ 16 → length s ≡ m → highFirst m (heldBits s .value) ≡ s
@@ -125,6 +125,14 @@ module _ (c : Circuit) (o : Opened) (k : Held) (x : Sum) (h : List ℕ) (r' : Le
       let most = f .stands .sound .most in
       form-taken (opens (part C u v)) refl (rw (digits-held _ u most (long .0), digits-held _ v most (long .1)) at (d c o (f .stands .sound) (f .stands .opened) (f .stands .circuit) (f .stands .sum)))
 
+  pub one-colour-taken :
+      {t : Typed} {C : Colour} {u : Bits} → HeldAs t (Form.One C u) → Free c o k x h t →
+      Does (λ c o. accepted c o (opens (one C (highFirst (c .m) (u .value))))) k x r' → Taken c o h t r' h
+  unfolding row stringsOf
+  one-colour-taken (ones {C = C} {x = u}) f d =
+      let long = one-long (c .m) u (passing (opens (one C u)) f .lengths) in
+      form-taken (opens (one C u)) refl (rw (digits-held _ u (f .stands .sound .most) long) at (d c o (f .stands .sound) (f .stands .opened) (f .stands .circuit) (f .stands .sum)))
+
   pub step-taken : {t : Typed} {j : ℕ} → HeldAs t (Form.Step j) → Free c o k x h t → Does (λ c o. accepted c o (step j)) k x r' → Taken c o h t r' h
   unfolding row
   step-taken (steps {k = j}) f d = form-taken (step j) refl (rw (number-held (step j) f (omega arith)) at (d c o (f .stands .sound) (f .stands .opened) (f .stands .circuit) (f .stands .sum)))
@@ -159,21 +167,21 @@ module _ (c : Circuit) (o : Opened) (k : Held) (x : Sum) (h : List ℕ) (r' : Le
 
     pub ccz-taken : {t : Typed} {p q r : ℕ} → HeldAs t (Form.Ccz p q r) → readingOf line ≡ typed t → Free c o k x h t → Builds (Gate.Ccz p q r ∷ []) k x h r' h' → Taken c o h t r' h'
     unfolding heldGate
-    ccz-taken (cczs {i = p} {j = q} {k = r}) is f d = gates-taken _ is one (λ m most v. held-inside m most (Gate.Ccz p q r ∷ []) v) f d
+    ccz-taken (cczs {i = p} {j = q} {k = r}) is f d = gates-taken _ is single (λ m most v. held-inside m most (Gate.Ccz p q r ∷ []) v) f d
 
     pub cz-taken : {t : Typed} {p q : Spot} → HeldAs t (Form.Cz p q) → readingOf line ≡ typed t → Free c o k x h t → Builds (Gate.Cz p q ∷ []) k x h r' h' → Taken c o h t r' h'
     unfolding heldGate
-    cz-taken (czs {p} {q}) is f d = gates-taken _ is one (λ m most r. held-inside m most (Gate.Cz p q ∷ []) r) f d
+    cz-taken (czs {p} {q}) is f d = gates-taken _ is single (λ m most r. held-inside m most (Gate.Cz p q ∷ []) r) f d
 
     pub cnot-taken : {t : Typed} {C : Colour} {d u : ℕ} → HeldAs t (Form.Cnot C d u) → readingOf line ≡ typed t → Free c o k x h t → Builds (Gate.Cnot C d u ∷ []) k x h r' h' → Taken c o h t r' h'
     unfolding heldGate
-    cnot-taken (cnots {C = C} {c = d} {t = u}) is f built = gates-taken _ is one (λ m most r. held-inside m most (Gate.Cnot C d u ∷ []) r) f built
+    cnot-taken (cnots {C = C} {c = d} {t = u}) is f built = gates-taken _ is single (λ m most r. held-inside m most (Gate.Cnot C d u ∷ []) r) f built
 
     pub layer-taken : {t : Typed} {n : ℕ} → HeldAs t (Form.Layer n) → readingOf line ≡ typed t → Free c o k x h t → Builds (gatesMet n line 6) k x h r' h' → Taken c o h t r' h'
     unfolding held heldReading
     layer-taken (layers {gs}) is f d =
         let walked = layer-walked line (length gs) (ap heldReading is) in
-        gates-taken (gatesMet (length gs) line 6) is many (λ m most r. walked ∙ handed-on line gs is ∙ held-inside m most gs r) f d
+        gates-taken (gatesMet (length gs) line 6) is several (λ m most r. walked ∙ handed-on line gs is ∙ held-inside m most gs r) f d
 
 -- What the code holds tells the form that was typed.
 pub held-told : (form f : Form) (l : List ℕ) (t : Typed) → form ≡ heldReading (readingOf l) → readingOf l ≡ typed t → form ≡ f → HeldAs t f

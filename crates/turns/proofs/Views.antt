@@ -17,7 +17,7 @@ use Rattle.circuit.specs.Colours.{join}
 use Rattle.circuit.specs.Sum.{areGates}
 use Rattle.held.specs.Circuit.{Circuit, newCircuit, withGates, withoutLast, withNewStart}
 use Rattle.held.specs.Memory.{Long}
-use Rattle.forms.specs.Typed.{Asked, amp, part, Typed, circuit, gate, layer, undo, start, opens, step, drop, terms, stringsOf, row}
+use Rattle.forms.specs.Typed.{Asked, amp, part, one, Typed, circuit, gate, layer, undo, start, opens, step, drop, terms, stringsOf, row}
 use Rattle.forms.specs.Spelling.{Reading, typed, refused}
 use Rattle.lines.specs.Readings.{readingOf}
 use Rattle.lines.proofs.Readings.{form-read, refused-among}
@@ -33,8 +33,8 @@ use Rattle.turns.proofs.HeldGates.{gates-by-tests}
 
 -- The forms of gates, and their gates.
 pub data Building : Typed → List Gate → Type 0 where
-  one : {g : Gate} → Building (gate g) (g ∷ [])
-  many : {gs : List Gate} → Building (layer gs) gs
+  single : {g : Gate} → Building (gate g) (g ∷ [])
+  several : {gs : List Gate} → Building (layer gs) gs
 
 -- A sum with k more slices worked.
 abbrev pub further : OpenSum → ℕ → OpenSum
@@ -72,12 +72,15 @@ ViewOf room c o r t = View room c o r (t .circuit) (t .opened) (t .answer)
 long : (m : ℕ) (s : BitString) → not (eqb (length s) m) ≡ false → length s ≡ m
 long m s h = eqb-true (length s) m (not-false (eqb (length s) m) h)
 
+pub one-long : (m : ℕ) (x : BitString) → anyNotLong m (x ∷ []) ≡ false → length x ≡ m
+unfolding anyNotLong
+one-long m x h = long m x (or-none (not (eqb (length x) m)) false h .0)
+
 pub two-long : (m : ℕ) (x y : BitString) → anyNotLong m (x ∷ y ∷ []) ≡ false → (length x ≡ m) × (length y ≡ m)
 unfolding anyNotLong
 two-long m x y h =
     let p = or-none (not (eqb (length x) m)) _ h in
-    let q = or-none (not (eqb (length y) m)) false (p .1) in
-    (long m x (p .0), long m y (q .0))
+    (long m x (p .0), one-long m y (p .1))
 
 pub three-long : (m : ℕ) (x y z : BitString) → anyNotLong m (x ∷ y ∷ z ∷ []) ≡ false → Long m (record { red = x; blue = y; green = z })
 unfolding anyNotLong
@@ -86,17 +89,24 @@ three-long m x y z h =
     let q = two-long m y z (p .1) in
     record { red = long m x (p .0); blue = q .0; green = q .1 }
 
--- So are those that a sum is asked for; zeros stand for the unread colour.
+-- So are those that a sum is asked for; zeros stand for an unread colour.
 beside-long : (C : Colour) (m : ℕ) (x y : BitString) → length x ≡ m → length y ≡ m → Long m (join C (zeros m) x y)
 unfolding join
 beside-long Red m x y h k = record { red = length-zeros m; blue = h; green = k }
 beside-long Blue m x y h k = record { red = h; blue = length-zeros m; green = k }
 beside-long Green m x y h k = record { red = h; blue = k; green = length-zeros m }
 
+alone-long : (C : Colour) (m : ℕ) (x : BitString) → length x ≡ m → Long m (join C x (zeros m) (zeros m))
+unfolding join
+alone-long Red m x h = record { red = h; blue = length-zeros m; green = length-zeros m }
+alone-long Blue m x h = record { red = length-zeros m; blue = h; green = length-zeros m }
+alone-long Green m x h = record { red = length-zeros m; blue = length-zeros m; green = h }
+
 pub asked-long : (m : ℕ) (q : Asked) → anyNotLong m (stringsOf q) ≡ false → Long m (output m q)
 unfolding stringsOf output
 asked-long m (amp C r b g) h = three-long m r b g h
 asked-long m (part C x y) h = let p = two-long m x y h in beside-long C m x y (p .0) (p .1)
+asked-long m (one C x) h = alone-long C m x (one-long m x h)
 
 -- There is a circuit where a form other than `circuit` passes.
 some-positions : (m : ℕ) → not (not (eqb m 0)) && true ≡ false → 1 ≤ m
@@ -134,8 +144,8 @@ module _ (room : ℕ) where
     idle : (c : Circuit) (t : Typed) → readingOf l ≡ typed t → Passing c closed t → ViewOf room c closed (typed t) (accepted c closed t)
     unfolding accepted isRunning row works isClass classNumber opening
     idle c (circuit m) is p = created c closed m p
-    idle c (gate g) is p = adds one (gates-by-tests (c .m) (g ∷ []) (p .inside) (p .targets) (form-read l (gate g) is .colours)) (p .fits)
-    idle c (layer gs) is p = adds many (gates-by-tests (c .m) gs (p .inside) (p .targets) (form-read l (layer gs) is .colours)) (p .fits)
+    idle c (gate g) is p = adds single (gates-by-tests (c .m) (g ∷ []) (p .inside) (p .targets) (form-read l (gate g) is .colours)) (p .fits)
+    idle c (layer gs) is p = adds several (gates-by-tests (c .m) gs (p .inside) (p .targets) (form-read l (layer gs) is .colours)) (p .fits)
     idle c (undo k) is p = takesBack
     idle c (start r b g) is p = starts (three-long (c .m) r b g (p .lengths))
     idle c (opens q) is p = opensSum (some-positions (c .m) (p .loading)) (asked-long (c .m) q (p .lengths))

@@ -29,6 +29,7 @@ fn taken(circuit: Held, sum: Sum, history: &mut [u32], line: &[u8], form: Form) 
         Form::Start(_, _, _) => stages::start_turn(circuit, sum, form),
         Form::Amp(_, _, _, _) => stages::amplitude_turn(circuit, sum, form),
         Form::Part(_, _, _) => stages::readout_turn(circuit, sum, form),
+        Form::One(_, _) => stages::one_colour_turn(circuit, sum, form),
         Form::Step(_) => stages::step_turn(circuit, sum, form),
         Form::Drop => stages::drop_turn(circuit, sum, form),
         Form::Terms => stages::terms_turn(circuit, sum, form),

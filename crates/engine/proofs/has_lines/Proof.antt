@@ -14,7 +14,7 @@ use Rattle.engine.proofs.has_lines.Statement.{statement}
 use Rattle.engine.proofs.has_lines.Tie as tie
 
 abbrev others : List ℕ
-others = 0 ∷ 1 ∷ 2 ∷ 3 ∷ 5 ∷ 6 ∷ []
+others = 0 ∷ 1 ∷ 2 ∷ 3 ∷ 4 ∷ 6 ∷ 7 ∷ []
 
 others-none : (a : Answer) → OneOf others (tagOf the-type a) → false ≡ hasLines a
 unfolding hasLines
@@ -22,7 +22,8 @@ others-none Answer.Ok h = refl
 others-none (Answer.Left l) h = refl
 others-none (Answer.Amplitude s n) h = refl
 others-none (Answer.Readout t n) h = refl
-others-none (Answer.Terms n) h = absurd (miss others 4 tt h)
+others-none (Answer.OneColour t n) h = refl
+others-none (Answer.Terms n) h = absurd (miss others 5 tt h)
 others-none (Answer.Listed g) h = refl
 others-none (Answer.Refused e) h = refl
 

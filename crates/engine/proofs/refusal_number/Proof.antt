@@ -13,7 +13,7 @@ use Rattle.engine.proofs.refusal_number.Statement.{statement}
 use Rattle.engine.proofs.refusal_number.Tie as tie
 
 abbrev others : List ℕ
-others = 0 ∷ 1 ∷ 2 ∷ 3 ∷ 4 ∷ 5 ∷ []
+others = 0 ∷ 1 ∷ 2 ∷ 3 ∷ 4 ∷ 5 ∷ 6 ∷ []
 
 others-none : (a : Answer) → OneOf others (tagOf the-type a) → 0 ≡ refusalNumber a
 unfolding refusalNumber
@@ -21,9 +21,10 @@ others-none Answer.Ok h = refl
 others-none (Answer.Left l) h = refl
 others-none (Answer.Amplitude s n) h = refl
 others-none (Answer.Readout t n) h = refl
+others-none (Answer.OneColour t n) h = refl
 others-none (Answer.Terms n) h = refl
 others-none (Answer.Listed g) h = refl
-others-none (Answer.Refused e) h = absurd (miss others 6 tt h)
+others-none (Answer.Refused e) h = absurd (miss others 7 tt h)
 
 enum-known-answer : tie.Need-enum-known-answer
 enum-known-answer c = search needs

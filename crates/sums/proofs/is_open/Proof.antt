@@ -17,6 +17,9 @@ enum-told-2 c = search needs
 enum-told-3 : tie.Need-enum-told-3
 enum-told-3 c = search needs
 
+enum-told-4 : tie.Need-enum-told-4
+enum-told-4 c = search needs
+
 returns : tie.Need-returns
 unfolding isRunning encodeSum
 returns c closed is = refl
@@ -32,5 +35,10 @@ unfolding isRunning encodeSum
 returns-3 c closed is = never (cc (ap (λ (x : Sum). x .total) is, c .enum-told3 .given .1))
 returns-3 c (running o) is = refl
 
+returns-4 : tie.Need-returns-4
+unfolding isRunning encodeSum
+returns-4 c closed is = never (cc (ap (λ (x : Sum). x .total) is, c .enum-told4 .given .1))
+returns-4 c (running o) is = refl
+
 pub is-open-spec : {M : Type 1} → statement M
-is-open-spec = tie.close (tie.spec enum-told enum-told-2 enum-told-3 returns returns-2 returns-3)
+is-open-spec = tie.close (tie.spec enum-told enum-told-2 enum-told-3 enum-told-4 returns returns-2 returns-3 returns-4)

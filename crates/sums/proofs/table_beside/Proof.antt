@@ -1,11 +1,10 @@
 -- Zeros stand for the unread colour, in each of its three places.
 use borrow.Author.Needs.{needs}
-use mathlib.Core.Path.{refl}
+use mathlib.Core.Path.{_∙_}
 use Rattle.circuit.specs.declared.Colour.the-variants.{Red, Blue, Green}
 use Rattle.circuit.specs.Colours.{join}
-use Rattle.forms.specs.Typed.{part}
-use Rattle.sums.specs.Tables.{sliced}
-use Rattle.sums.proofs.Openings.{placed}
+use Rattle.tables.specs.Packing.{strings}
+use Rattle.sums.proofs.Openings.{readout-tabled}
 use Rattle.sums.proofs.table_beside.Statement.{statement}
 use Rattle.sums.proofs.table_beside.Tie as tie
 
@@ -28,16 +27,16 @@ table-of-requires-3 : tie.Need-table-of-requires-3
 table-of-requires-3 c κs = search needs
 
 returns : tie.Need-returns
-unfolding sliced join
-returns c k is s = c .table-of .ensures k (part _ _ _) is s refl (placed _ Red _ _ _ (c .before .enum-told .given .1))
+unfolding strings join
+returns c k is s = c .table-of .ensures k is s ∙ readout-tabled _ Red _ _ k (c .before .enum-told .given .1)
 
 returns-2 : tie.Need-returns-2
-unfolding sliced join
-returns-2 c k is s = c .table-of2 .ensures k (part _ _ _) is s refl (placed _ Blue _ _ _ (c .before .enum-told2 .given .1))
+unfolding strings join
+returns-2 c k is s = c .table-of2 .ensures k is s ∙ readout-tabled _ Blue _ _ k (c .before .enum-told2 .given .1)
 
 returns-3 : tie.Need-returns-3
-unfolding sliced join
-returns-3 c k is s = c .table-of3 .ensures k (part _ _ _) is s refl (placed _ Green _ _ _ (c .before .enum-told3 .given .1))
+unfolding strings join
+returns-3 c k is s = c .table-of3 .ensures k is s ∙ readout-tabled _ Green _ _ k (c .before .enum-told3 .given .1)
 
 pub table-beside-spec : {M : Type 1} → statement M
 table-beside-spec =

@@ -1,6 +1,6 @@
 -- Each form is taken by its own stage; what a stage asks is known where no place turned the line back.
 use Rattle.forms.proofs.HeldForms.{never-refused}
-use Rattle.turns.proofs.TurnTaken.{circuit-taken, ccz-taken, cz-taken, cnot-taken, layer-taken, undo-taken, start-taken, amplitude-taken, readout-taken, step-taken, drop-taken, terms-taken, held-told}
+use Rattle.turns.proofs.TurnTaken.{circuit-taken, ccz-taken, cz-taken, cnot-taken, layer-taken, undo-taken, start-taken, amplitude-taken, readout-taken, one-colour-taken, step-taken, drop-taken, terms-taken, held-told}
 use borrow.Author.Needs.{needs}
 use Rattle.turns.proofs.taken.Statement.{statement}
 use Rattle.turns.proofs.taken.Tie as tie
@@ -62,23 +62,29 @@ readout-turn-requires c κs = search needs
 enum-told-10 : tie.Need-enum-told-10
 enum-told-10 c = search needs
 
-step-turn-requires : tie.Need-step-turn-requires
-step-turn-requires c κs = search needs
+one-colour-turn-requires : tie.Need-one-colour-turn-requires
+one-colour-turn-requires c κs = search needs
 
 enum-told-11 : tie.Need-enum-told-11
 enum-told-11 c = search needs
 
-drop-turn-requires : tie.Need-drop-turn-requires
-drop-turn-requires c κs = search needs
+step-turn-requires : tie.Need-step-turn-requires
+step-turn-requires c κs = search needs
 
 enum-told-12 : tie.Need-enum-told-12
 enum-told-12 c = search needs
 
-terms-turn-requires : tie.Need-terms-turn-requires
-terms-turn-requires c κs = search needs
+drop-turn-requires : tie.Need-drop-turn-requires
+drop-turn-requires c κs = search needs
 
 enum-told-13 : tie.Need-enum-told-13
 enum-told-13 c = search needs
+
+terms-turn-requires : tie.Need-terms-turn-requires
+terms-turn-requires c κs = search needs
+
+enum-told-14 : tie.Need-enum-told-14
+enum-told-14 c = search needs
 
 turned-back-requires : tie.Need-turned-back-requires
 turned-back-requires c κs = search needs
@@ -141,24 +147,30 @@ returns-10 : tie.Need-returns-10
 returns-10 c k o t is f =
     let start = c .before .before .before .before .before in
     let told = c .before .enum-told10 .given .1 in
-    step-taken k o _ _ _ _ (held-told _ _ _ t (start .pre) is told) f (c .step-turn .ensures .0 _ told)
+    one-colour-taken k o _ _ _ _ (held-told _ _ _ t (start .pre) is told) f (c .one-colour-turn .ensures .0 _ _ told)
 
 returns-11 : tie.Need-returns-11
 returns-11 c k o t is f =
     let start = c .before .before .before .before .before in
     let told = c .before .enum-told11 .given .1 in
-    drop-taken k o _ _ _ _ (held-told _ _ _ t (start .pre) is told) f (c .drop-turn .ensures .0 told)
+    step-taken k o _ _ _ _ (held-told _ _ _ t (start .pre) is told) f (c .step-turn .ensures .0 _ told)
 
 returns-12 : tie.Need-returns-12
 returns-12 c k o t is f =
     let start = c .before .before .before .before .before in
     let told = c .before .enum-told12 .given .1 in
-    terms-taken k o _ _ _ _ (held-told _ _ _ t (start .pre) is told) f (c .terms-turn .ensures .0 told)
+    drop-taken k o _ _ _ _ (held-told _ _ _ t (start .pre) is told) f (c .drop-turn .ensures .0 told)
 
 returns-13 : tie.Need-returns-13
 returns-13 c k o t is f =
     let start = c .before .before .before .before .before in
     let told = c .before .enum-told13 .given .1 in
+    terms-taken k o _ _ _ _ (held-told _ _ _ t (start .pre) is told) f (c .terms-turn .ensures .0 told)
+
+returns-14 : tie.Need-returns-14
+returns-14 c k o t is f =
+    let start = c .before .before .before .before .before in
+    let told = c .before .enum-told14 .given .1 in
     absurd (never-refused (held-told _ _ _ t (start .pre) is told))
 
 same-length : tie.Need-same-length
@@ -199,12 +211,14 @@ taken-spec =
     enum-told-9
     readout-turn-requires
     enum-told-10
-    step-turn-requires
+    one-colour-turn-requires
     enum-told-11
-    drop-turn-requires
+    step-turn-requires
     enum-told-12
-    terms-turn-requires
+    drop-turn-requires
     enum-told-13
+    terms-turn-requires
+    enum-told-14
     turned-back-requires
     returns
     same-length
@@ -223,4 +237,5 @@ taken-spec =
     returns-10
     returns-11
     returns-12
-    returns-13)
+    returns-13
+    returns-14)
