@@ -1,16 +1,18 @@
--- The answer of a step that ends a sum: a readout count or an amplitude of the sum that was open, and of no other line.
-use mathlib.Core.Path.{_≡_, refl}
+-- The answer of a step that ends a sum: the total of the sum that was open, and of no other line.
+use mathlib.Core.Path.{_≡_, refl, ap, _∙_}
+use mathlib.Core.Bool.{Bool, true, false, false≢true}
 use Prim.Native.Nat.{ℕ, _*_, _^_}
 use lib.IntN.{ℤ}
 use Rattle.gf2.specs.Strings.{BitString, _⊞_}
 use Rattle.gf2.proofs.Impossible.{never}
 use Rattle.circuit.specs.declared.Colour.{Colour}
-use Rattle.circuit.specs.Colours.{first, second}
+use Rattle.circuit.specs.Colours.{the, first, second, colours}
 use Rattle.circuit.specs.Sum.{Basis}
 use Rattle.circuit.specs.Polynomial.{polynomial}
 use Rattle.slices.specs.Totals.{amplitudeAfter, readoutCount, withStart}
+use Rattle.slices.specs.OneColour.{oneAfter}
 use Rattle.held.specs.Circuit.{Circuit}
-use Rattle.forms.specs.Typed.{Asked, amp, part}
+use Rattle.forms.specs.Typed.{Asked, amp, part, one}
 use Rattle.forms.specs.Spelling.{Reading}
 use Rattle.answers.specs.declared.Answer.{Answer}
 use Rattle.answers.specs.declared.Answer.the-variants as Answer
@@ -30,44 +32,79 @@ pub data AmplitudeEnd (s : ℤ) (n : ℕ) : Opened → Type 0 where
       s ≡ amplitudeAfter (o .circuit .m) (polynomial (o .circuit .gates)) C (withStart (o .circuit .start) u) (2 ^ o .circuit .m) →
       n ≡ 3 * o .circuit .m → AmplitudeEnd s n (running o)
 
+pub data OneEnd (t n : ℕ) : Opened → Type 0 where
+  settled :
+      (o : OpenSum) (C : Colour) (x : BitString) → o .asked ≡ one C x →
+      t
+      ≡ oneAfter (o .circuit .m) (polynomial (o .circuit .gates)) C (first C colours) (x ⊞ the C (o .circuit .start)) (2 ^ o .circuit .m) →
+      n ≡ 2 * o .circuit .m → OneEnd t n (running o)
+
 -- The answer of a sum at its end, by what it was opened for.
 abbrev Whole : Asked → Circuit → Answer
 Whole q c = ended (c .m) (totalAfter q c (2 ^ c .m))
 
-pub readout-end :
-    {room : ℕ} {c c' : Circuit} {o o' : Opened} {r : Reading} {a : Answer} (t n : ℕ) → View room c o r c' o' a →
-    a ≡ Answer.Readout t n → ReadoutEnd t n o
-unfolding totalAfter ended readoutCount
-readout-end t n refuses h = never (cc)
-readout-end t n (creates i low high) h = never (cc)
-readout-end t n (adds g v w) h = never (cc)
-readout-end t n takesBack h = never (cc)
-readout-end t n (starts long) h = never (cc)
-readout-end t n (opensSum some long) h = never (cc)
-readout-end t n (worksOn w) h = never (cc)
-readout-end t n (finishes {o = o} w) h = go (o .asked) refl h
-  where
-    go : (q : Asked) → o .asked ≡ q → Whole q (o .circuit) ≡ Answer.Readout t n → ReadoutEnd t n (running o)
-    go (amp C r b g) e h = never (cc)
-    go (part C x y) e h = counted o C x y e (cc) (cc)
-readout-end t n drops h = never (cc)
-readout-end t n lists h = never (cc)
+-- Is the answer a total?
+unfoldable isTotal : Answer → Bool
+isTotal Answer.Ok = false
+isTotal (Answer.Left l) = false
+isTotal (Answer.Amplitude s n) = true
+isTotal (Answer.Readout t n) = true
+isTotal (Answer.OneColour t n) = true
+isTotal (Answer.Terms n) = false
+isTotal (Answer.Listed g) = false
+isTotal (Answer.Refused e) = false
 
-pub amplitude-end :
-    {room : ℕ} {c c' : Circuit} {o o' : Opened} {r : Reading} {a : Answer} (s : ℤ) (n : ℕ) → View room c o r c' o' a →
-    a ≡ Answer.Amplitude s n → AmplitudeEnd s n o
-unfolding totalAfter ended
-amplitude-end s n refuses h = never (cc)
-amplitude-end s n (creates i low high) h = never (cc)
-amplitude-end s n (adds g v w) h = never (cc)
-amplitude-end s n takesBack h = never (cc)
-amplitude-end s n (starts long) h = never (cc)
-amplitude-end s n (opensSum some long) h = never (cc)
-amplitude-end s n (worksOn w) h = never (cc)
-amplitude-end s n (finishes {o = o} w) h = go (o .asked) refl h
-  where
-    go : (q : Asked) → o .asked ≡ q → Whole q (o .circuit) ≡ Answer.Amplitude s n → AmplitudeEnd s n (running o)
-    go (amp C r b g) e h = summed o C (record { red = r; blue = b; green = g }) e (cc) (cc)
-    go (part C x y) e h = never (cc)
-amplitude-end s n drops h = never (cc)
-amplitude-end s n lists h = never (cc)
+data Finished (a : Answer) : Opened → Type 0 where
+  finished : (o : OpenSum) → Whole (o .asked) (o .circuit) ≡ a → Finished a (running o)
+
+-- Only a step that ends a sum answers a total.
+total-end :
+    {room : ℕ} {c c' : Circuit} {o o' : Opened} {r : Reading} {a : Answer} → View room c o r c' o' a → isTotal a ≡ true → Finished a o
+unfolding isTotal
+total-end refuses h = absurd (false≢true h)
+total-end (creates i low high) h = absurd (false≢true h)
+total-end (adds g v w) h = absurd (false≢true h)
+total-end takesBack h = absurd (false≢true h)
+total-end (starts long) h = absurd (false≢true h)
+total-end (opensSum some long) h = absurd (false≢true h)
+total-end (worksOn w) h = absurd (false≢true h)
+total-end (finishes {o = o} w) h = finished o refl
+total-end drops h = absurd (false≢true h)
+total-end lists h = absurd (false≢true h)
+
+module _ {room : ℕ} {c c' : Circuit} {o o' : Opened} {r : Reading} {a : Answer} (v : View room c o r c' o' a) where
+  pub readout-end : (t n : ℕ) → a ≡ Answer.Readout t n → ReadoutEnd t n o
+  unfolding isTotal totalAfter ended readoutCount
+  readout-end t n h = by (total-end v (ap isTotal h))
+    where
+      by : {o : Opened} → Finished a o → ReadoutEnd t n o
+      by (finished o e) = go (o .asked) refl (e ∙ h)
+        where
+          go : (q : Asked) → o .asked ≡ q → Whole q (o .circuit) ≡ Answer.Readout t n → ReadoutEnd t n (running o)
+          go (amp C r b g) e h = never (cc)
+          go (part C x y) e h = counted o C x y e (cc) (cc)
+          go (one C x) e h = never (cc)
+
+  pub amplitude-end : (s : ℤ) (n : ℕ) → a ≡ Answer.Amplitude s n → AmplitudeEnd s n o
+  unfolding isTotal totalAfter ended
+  amplitude-end s n h = by (total-end v (ap isTotal h))
+    where
+      by : {o : Opened} → Finished a o → AmplitudeEnd s n o
+      by (finished o e) = go (o .asked) refl (e ∙ h)
+        where
+          go : (q : Asked) → o .asked ≡ q → Whole q (o .circuit) ≡ Answer.Amplitude s n → AmplitudeEnd s n (running o)
+          go (amp C r b g) e h = summed o C (record { red = r; blue = b; green = g }) e (cc) (cc)
+          go (part C x y) e h = never (cc)
+          go (one C x) e h = never (cc)
+
+  pub one-end : (t n : ℕ) → a ≡ Answer.OneColour t n → OneEnd t n o
+  unfolding isTotal totalAfter ended
+  one-end t n h = by (total-end v (ap isTotal h))
+    where
+      by : {o : Opened} → Finished a o → OneEnd t n o
+      by (finished o e) = go (o .asked) refl (e ∙ h)
+        where
+          go : (q : Asked) → o .asked ≡ q → Whole q (o .circuit) ≡ Answer.OneColour t n → OneEnd t n (running o)
+          go (amp C r b g) e h = never (cc)
+          go (part C x y) e h = never (cc)
+          go (one C x) e h = settled o C x e (cc) (cc)

@@ -6,14 +6,14 @@ use mathlib.Core.List.{List, [], _∷_}
 use Prim.Native.Nat.{ℕ, suc, _≤_}
 use Rattle.text.specs.Spelling.{sameBytes, begins}
 use Rattle.held.specs.Circuit.{Circuit}
-use Rattle.forms.specs.Typed.{Asked, amp, part, row}
+use Rattle.forms.specs.Typed.{Asked, amp, part, one, row}
 use Rattle.forms.specs.Spelling.{Reading}
 use Rattle.lines.specs.Readings.{readingOf}
 use Rattle.answers.specs.declared.Answer.{Answer}
 use Rattle.answers.specs.declared.Answer.the-variants as Answer
 use Rattle.answers.specs.Answers.{bytesOf}
 use Rattle.sums.specs.Sums.{Opened, closed, running, totalAfter, ended}
-use Rattle.turns.proofs.Views.{one, many, View, refuses, creates, adds, takesBack, starts, opensSum, worksOn, finishes, drops, lists}
+use Rattle.turns.proofs.Views.{single, several, View, refuses, creates, adds, takesBack, starts, opensSum, worksOn, finishes, drops, lists}
 use Rattle.runs.specs.Runs.{LineCall, line, answerOf, isOk, inOrder, enterBy, enter, fed, Last, last, isLeft, askedIn, noted, Log, logged}
 
 abbrev pub NotedFor : Opened → Log → Type 0
@@ -50,6 +50,7 @@ total-quiet : (q : Asked) (c : Circuit) (w : ℕ) → isOk (bytesOf (ended (c .m
 unfolding totalAfter ended bytesOf isOk sameBytes
 total-quiet (amp C r b g) c w = refl
 total-quiet (part C x y) c w = refl
+total-quiet (one C x) c w = refl
 
 module _ (g : Log) where
   quiet : {c : Circuit} {o : Opened} (r : Reading) (a : List ℕ) → isOk a ≡ false → isLeft a ≡ false → Follows c o g → Follows c o (loggedBy g r a)
@@ -61,8 +62,8 @@ module _ (g : Log) where
   unfolding loggedBy bytesOf isOk sameBytes isLeft begins enter enterBy row askedIn noted inOrder
   followed {r = r} (refuses {n = n}) t = quiet r (bytesOf (Answer.Refused (suc n))) refl refl t
   followed (creates i low high) t = record { book = refl; sum = tt }
-  followed (adds one v w) t = record { book = rw (t .book); sum = tt }
-  followed (adds many v w) t = record { book = rw (t .book); sum = tt }
+  followed (adds single v w) t = record { book = rw (t .book); sum = tt }
+  followed (adds several v w) t = record { book = rw (t .book); sum = tt }
   followed takesBack t = record { book = rw (t .book); sum = tt }
   followed (starts long) t = record { book = rw (t .book); sum = tt }
   followed (opensSum some long) t = record { book = t .book; sum = (rw (t .book), some) }

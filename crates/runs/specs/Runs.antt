@@ -1,4 +1,4 @@
--- Runs, for demand 3 (Manual 11.1 to 11.6): a list of calls, the book that is kept of their lines and answers alone, and the claim.
+-- Runs, for demand 3 (Manual 11.1 to 11.7): a list of calls, the book that is kept of their lines and answers alone, and the claim.
 use mathlib.Core.Bool.{Bool, true, false, not, cond, _&&_, _||_}
 use mathlib.Core.List.{List, [], _∷_, _++_}
 use mathlib.Core.Path.{_≡_}
@@ -9,7 +9,7 @@ use Rattle.gf2.specs.Strings.{BitString}
 use Rattle.gf2.specs.Sums.{sum}
 use Rattle.circuit.specs.declared.Colour.{Colour}
 use Rattle.circuit.specs.declared.Gate.{Gate}
-use Rattle.circuit.specs.Colours.{join}
+use Rattle.circuit.specs.Colours.{sameColour, first, second, join}
 use Rattle.circuit.specs.Sum.{Basis, signedSum}
 use Rattle.slices.specs.Rank.{tally}
 use Rattle.slices.specs.Totals.{withStart}
@@ -17,7 +17,7 @@ use Rattle.held.specs.Circuit.{Circuit, allZeros, newCircuit, withGates, withou
 use Rattle.text.specs.Spelling.{bytes, sameBytes, begins}
 use Rattle.forms.specs.declared.Class.{Class}
 use Rattle.forms.specs.declared.Class.the-variants.{Creates, Builds, TakesBack, Starts, Opens, Steps, Drops, Lists}
-use Rattle.forms.specs.Typed.{Asked, amp, part, opens, step, Row, row}
+use Rattle.forms.specs.Typed.{Asked, amp, part, one, opens, step, Row, row}
 use Rattle.forms.specs.Spelling.{Reading, typed, refused}
 use Rattle.lines.specs.Readings.{readingOf}
 use Rattle.refusals.specs.Refusals.{isClass}
@@ -107,7 +107,7 @@ enter (refused n) b = b
 unfoldable pub fed : Circuit → List ℕ → List ℕ → Circuit
 fed b l a = cond (isOk a) (enter (readingOf l) b) b
 
--- ---- the last sum that was opened, and the book as it was there (Manual 11.3, 11.6)
+-- ---- the last sum that was opened, and the book as it was there (Manual 11.3, 11.6, 11.7)
 
 -- What a line asked for that was answered `(left L)`, and the book as it was there.
 pub record Noted : Type 0 where
@@ -131,7 +131,7 @@ unfoldable pub noted : Circuit → List Asked → List ℕ → Last → Last
 noted b [] a p = p
 noted b (q ∷ qs) a p = cond (isLeft a) (last (record { asked = q; book = b })) p
 
--- The book, and the last sum that was opened, by `part` or by `amp`.
+-- The book, and the last sum that was opened, by `amp`, `part` or `one`.
 pub record Log : Type 0 where
   pub book : Circuit
   pub opened : Last
@@ -213,11 +213,11 @@ pub record Opening (calls : List Call) : Type 0 where
   pub latest : logOf calls .opened ≡ last (record { asked = part colour x y; book = book })
   pub some : 1 ≤ book .m
 
--- The answer is `(part T n)`, for some T and n.
-pub record IsReadout (answer : List ℕ) : Type 0 where
-  pub t : ℕ
-  pub n : ℕ
-  pub is : answer ≡ bytesOf (Answer.Readout t n)
+-- The answer is the total of a sum that was asked for so: `(amp S n)`, `(part T n)` or `(one N k)`, for some numbers.
+abbrev pub IsTotal : Asked → List ℕ → Type 0
+IsTotal (amp C r b g) a = (s : ℤ) × (n : ℕ) × (a ≡ bytesOf (Answer.Amplitude s n))
+IsTotal (part C x y) a = (t : ℕ) × (n : ℕ) × (a ≡ bytesOf (Answer.Readout t n))
+IsTotal (one C x) a = (t : ℕ) × (n : ℕ) × (a ≡ bytesOf (Answer.OneColour t n))
 
 -- The amplitude of the last sum opened, which was an `amp` (Manual 11.6): the signed sum of the gates that the book then held, at the output string
 -- with the book's start added, whichever colour was sliced.
@@ -229,16 +229,27 @@ pub record Amplitude (calls : List Call) (s : ℤ) (n : ℕ) : Type 0 where
   pub exponent : n ≡ 3 * book .m
   pub sum : s ≡ signedSum (book .m) (book .gates) (withStart (book .start) output)
 
--- The claim about the whole run (Manual 11.3 to 11.6).
+-- The count of the last sum opened, which was a `one` (Manual 11.7): n = 2m, and 2^(4m) times N is the sum of S(s)^2 over the 2^(2m) strings s with
+-- X on C, S being the signed sum of the gates that the book then held, at s with the book's start added.
+pub record OneColour (calls : List Call) (t n : ℕ) : Type 0 where
+  pub colour : Colour
+  pub x : BitString
+  pub book : Circuit
+  pub latest : logOf calls .opened ≡ last (record { asked = one colour x; book = book })
+  pub some : 1 ≤ book .m
+  pub exponent : n ≡ 2 * book .m
+  pub squares : pos (2 ^ (4 * book .m)) *ℤ pos t ≡
+      sum (book .m) (λ u. sum (book .m) (λ v. square (signedSum (book .m) (book .gates) (withStart (book .start) (join colour x u v)))))
+
+-- The claim about the whole run (Manual 11.3 to 11.7).
 pub record SoundRun (calls : List Call) : Type 0 where
   -- every `(part T n)` has an accepted `part` before it, and no other sum was opened since
   pub opened :
       (before : List Call) (c : LineCall) (after : List Call) (t n : ℕ) → calls ≡ before ++ (line c ∷ after) →
       answerOf c ≡ bytesOf (Answer.Readout t n) → Opening before
-  -- and no fetch shows one
+  -- and no fetch shows the total of a sum
   pub fetched :
-      (before : List Call) (f : FetchCall) (after : List Call) (t n : ℕ) → calls ≡ before ++ (fetch f ∷ after) →
-      shownBy f ≡ bytesOf (Answer.Readout t n) → ⊥
+      (before : List Call) (f : FetchCall) (after : List Call) (q : Asked) → calls ≡ before ++ (fetch f ∷ after) → IsTotal q (shownBy f) → ⊥
   -- every readout count is exact, where the book's start was all zeros (Manual 11.3)
   pub exact :
       (m : ℕ) (gates : List Gate) (C : Colour) (X Y : BitString) (t n : ℕ) →
@@ -249,20 +260,36 @@ pub record SoundRun (calls : List Call) : Type 0 where
       ((X Y : BitString) → length X ≡ m → length Y ≡ m →
       Answers calls (Answer.Readout (t X Y) (n X Y)) (part C X Y) (record { m = m; gates = gates; start = allZeros m })) →
       tally m (λ X. tally m (λ Y. t X Y)) ≡ 2 ^ (3 * m)
-  -- every `part` that is answered `(left L)` finds a circuit in the book
+  -- every line that asks for a sum and is answered `(left L)` finds a circuit in the book
   pub entered :
-      (before : List Call) (p : LineCall) (after : List Call) (C : Colour) (x y : BitString) → calls ≡ before ++ (line p ∷ after) →
-      readingOf (p .line) ≡ typed (opens (part C x y)) → isLeft (answerOf p) ≡ true → 1 ≤ logOf before .book .m
-  -- after an accepted `part`, with no accepted `drop` since, the step with which the k of the accepted steps first come to 2^m or more is answered
-  -- `(part T n)` (Manual 11.5). The `part` is p, the step is c, and m is that of the book at p.
+      (before : List Call) (p : LineCall) (after : List Call) (q : Asked) → calls ≡ before ++ (line p ∷ after) →
+      readingOf (p .line) ≡ typed (opens q) → isLeft (answerOf p) ≡ true → 1 ≤ logOf before .book .m
+  -- after such a line, with no accepted `drop` since, the step with which the k of the accepted steps first come to 2^m or more is answered with
+  -- the total of the sum (Manual 11.5). The line is p, the step is c, and m is that of the book at p.
   pub ends :
-      (before : List Call) (p : LineCall) (between : List Call) (c : LineCall) (after : List Call) (C : Colour) (x y : BitString) (k : ℕ) →
+      (before : List Call) (p : LineCall) (between : List Call) (c : LineCall) (after : List Call) (q : Asked) (k : ℕ) →
       calls ≡ before ++ (line p ∷ (between ++ (line c ∷ after))) →
-      readingOf (p .line) ≡ typed (opens (part C x y)) → isLeft (answerOf p) ≡ true →
+      readingOf (p .line) ≡ typed (opens q) → isLeft (answerOf p) ≡ true →
       dropsIn between ≡ false → stepsIn between < 2 ^ logOf before .book .m →
       readingOf (c .line) ≡ typed (step k) → isAccepted (answerOf c) ≡ true → 2 ^ logOf before .book .m ≤ stepsIn between + k →
-      IsReadout (answerOf c)
+      IsTotal q (answerOf c)
   -- demand 2 at the call: every `(amp S n)` is the signed sum of the book's gates at the output string with the start added (Manual 11.6)
   pub amplitudes :
       (before : List Call) (c : LineCall) (after : List Call) (s : ℤ) (n : ℕ) → calls ≡ before ++ (line c ∷ after) →
       answerOf c ≡ bytesOf (Answer.Amplitude s n) → Amplitude before s n
+  -- every `(one N k)` is the count of the last sum opened (Manual 11.7)
+  pub oneColour :
+      (before : List Call) (c : LineCall) (after : List Call) (t n : ℕ) → calls ≡ before ++ (line c ∷ after) →
+      answerOf c ≡ bytesOf (Answer.OneColour t n) → OneColour before t n
+  -- the counts of all strings X add up to 2^(2m)
+  pub oneTotal :
+      (b : Circuit) (C : Colour) (t n : BitString → ℕ) →
+      ((X : BitString) → length X ≡ b .m → Answers calls (Answer.OneColour (t X) (n X)) (one C X) b) → tally (b .m) t ≡ 2 ^ (2 * b .m)
+  -- 2^m times a count is the sum of the readout counts of either unread colour D over the strings Y of the third, the start being all zeros
+  pub oneByReadouts :
+      (m : ℕ) (gates : List Gate) (C D : Colour) (X : BitString) (t n : ℕ) (u k : BitString → ℕ) → sameColour C D ≡ false →
+      Answers calls (Answer.OneColour t n) (one C X) (record { m = m; gates = gates; start = allZeros m }) →
+      ((Y : BitString) → length Y ≡ m →
+      Answers calls (Answer.Readout (u Y) (k Y)) (part D (first D (join C X Y Y)) (second D (join C X Y Y)))
+      (record { m = m; gates = gates; start = allZeros m })) →
+      2 ^ m * t ≡ tally m u
