@@ -89,8 +89,8 @@ impl Polynomial {
     }
 }
 
-/// A matrix with index 0: rows by the first of the two colours that are not sliced, columns by the second. Column 0 is the first
-/// vector, row 0 the second, and their corner is the sliced colour's part of the sign.
+/// A matrix with index 0: rows by one of the two colours that are not sliced, columns by the other. Column 0 is the
+/// rows' vector, row 0 the columns', and their corner is the sliced colour's part of the sign.
 type Matrix = [u32; INDICES];
 
 /// The slices of one colour, at one output string.
@@ -119,8 +119,12 @@ pub struct Totals {
 
 impl Slices {
     pub fn of(polynomial: &Polynomial, sliced: Colour, output: Strings) -> Slices {
+        Slices::between(polynomial, sliced, sliced.others(), output)
+    }
+
+    /// The same with rows by the first and columns by the second of the given colours.
+    fn between(polynomial: &Polynomial, sliced: Colour, [first, second]: [Colour; 2], output: Strings) -> Slices {
         let m = polynomial.m;
-        let [first, second] = sliced.others();
         let mut parts = [[0; INDICES]; INDICES];
         for (i, part) in parts.iter_mut().enumerate() {
             for (j, row) in part.iter_mut().enumerate() {
@@ -169,11 +173,24 @@ impl Slices {
         }
         totals
     }
+
+    /// The solutions of all slices' systems.
+    fn solutions(&self) -> u64 {
+        let solved = |number: u32| reduced(self.m, &mut self.matrix(number)[1..=self.m]);
+        let of_one = |reduced: Reduced| 1 << (self.m - reduced.rank);
+        (0..1 << self.m).filter_map(solved).map(of_one).sum()
+    }
 }
 
-/// The inner sum of a slice. A row has its right side in bit 0 and the coefficients of the unknowns above.
-fn inner(m: usize, rows: &mut [u32], second: u32) -> Option<Inner> {
-    // Row by row the column of its pivot.
+/// A system that has solutions, once no column of a pivot is in another row.
+struct Reduced {
+    rank: usize,
+    /// Row by row the column of its pivot.
+    columns: [usize; INDICES],
+}
+
+/// Reduces a system. A row has its right side in bit 0 and the coefficients of the unknowns above.
+fn reduced(m: usize, rows: &mut [u32]) -> Option<Reduced> {
     let mut columns = [0; INDICES];
     let mut rank = 0;
     for column in 1..=m {
@@ -190,9 +207,13 @@ fn inner(m: usize, rows: &mut [u32], second: u32) -> Option<Inner> {
         rank += 1;
     }
     // No solution: a row without unknowns whose right side is 1.
-    if rows[rank..].iter().any(|&row| row != 0) {
-        return None;
-    }
+    let solvable = rows[rank..].iter().all(|&row| row == 0);
+    solvable.then_some(Reduced { rank, columns })
+}
+
+/// The inner sum of a slice.
+fn inner(m: usize, rows: &mut [u32], second: u32) -> Option<Inner> {
+    let Reduced { rank, columns } = reduced(m, rows)?;
     // Outside the row space: something is left of the second vector once the rows are taken off.
     let mut rest = second;
     let mut solution = 0;
@@ -211,4 +232,15 @@ fn inner(m: usize, rows: &mut [u32], second: u32) -> Option<Inner> {
 /// What the slices on a colour add up to.
 pub fn totals(polynomial: &Polynomial, sliced: Colour, output: Strings) -> Totals {
     Slices::of(polynomial, sliced, output).totals()
+}
+
+/// The count N of a string of the one colour that is read, with slices on one of the other two. A slice is a system
+/// with a row for each position of the read colour and the third colour's bits as unknowns; its solutions are the
+/// settings whose form is zero once the string is added.
+pub fn one_colour(polynomial: &Polynomial, read: Colour, sliced: Colour, string: u32) -> u64 {
+    let [first, second] = read.others();
+    let unknown = if sliced == first { second } else { first };
+    let mut output = [0; 3];
+    output[read.number()] = string;
+    Slices::between(polynomial, sliced, [read, unknown], output).solutions()
 }

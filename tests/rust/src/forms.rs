@@ -1,5 +1,5 @@
-//! A line taken apart as one of the twelve forms of document 01. The line is first read as nested brackets with items one space
-//! apart, then the items are matched.
+//! A line taken apart as one of the twelve forms of document 01 or as `one` of document 02. The line is first read as
+//! nested brackets with items one space apart, then the items are matched.
 
 use crate::gates::{Colour, Gate, Spot};
 
@@ -12,6 +12,7 @@ pub enum Form {
     Start([String; 3]),
     Amp(Colour, [String; 3]),
     Part(Colour, [String; 2]),
+    One(Colour, String),
     Step(usize),
     Drop,
     Terms,
@@ -107,6 +108,7 @@ impl Form {
             [Word("start"), r, b, g] => Some(Form::Start([bits(r)?, bits(b)?, bits(g)?])),
             [Word("amp"), c, r, b, g] => Some(Form::Amp(colour(c)?, [bits(r)?, bits(b)?, bits(g)?])),
             [Word("part"), c, x, y] => Some(Form::Part(colour(c)?, [bits(x)?, bits(y)?])),
+            [Word("one"), c, x] => Some(Form::One(colour(c)?, bits(x)?)),
             [Word("step"), k] => Some(Form::Step(number(k)?)),
             [Word("drop")] => Some(Form::Drop),
             [Word("terms")] => Some(Form::Terms),
@@ -128,6 +130,7 @@ impl Form {
         match self {
             Form::Start(strings) | Form::Amp(_, strings) => strings,
             Form::Part(_, strings) => strings,
+            Form::One(_, string) => std::slice::from_ref(string),
             _ => &[],
         }
     }

@@ -1,7 +1,7 @@
-//! A model of the session: what document 01 says a line is answered, written down a second time. Refusal 1 is left out, since
-//! `session` lends a buffer that is long enough.
+//! A model of the session: what documents 01 and 02 say a line is answered, written down a second time. Refusal 1 is
+//! left out, since `session` lends a buffer that is long enough.
 
-use crate::elimination::{Polynomial, totals};
+use crate::elimination::{Polynomial, one_colour, totals};
 use crate::forms::Form;
 use crate::gates::{Colour, Gate, Strings, added, word};
 use crate::reference::FullSum;
@@ -53,12 +53,20 @@ pub struct Circuit {
     pub start: Strings,
 }
 
+/// What an open sum is for, each with the colour that its line names.
+#[derive(Clone, Copy)]
+enum Asked {
+    Amplitude { sliced: Colour },
+    Readout { unread: Colour },
+    OneColour { read: Colour },
+}
+
 /// An open sum, with the circuit as it stood when it was opened.
 struct Sum {
     circuit: Circuit,
-    colour: Colour,
+    asked: Asked,
+    /// Zeros where a colour is unread.
     output: Strings,
-    readout: bool,
     left: usize,
 }
 
@@ -67,11 +75,13 @@ impl Sum {
     fn ended(&self) -> String {
         let Circuit { m, gates, start } = &self.circuit;
         let output = added(self.output, *start);
-        let n = 3 * m;
-        if self.readout {
-            format!("(part {} {n})", count(*m, gates, self.colour, output))
-        } else {
-            format!("(amp {} {n})", amplitude(*m, gates, self.colour, output))
+        match self.asked {
+            Asked::Amplitude { sliced } => format!("(amp {} {})", amplitude(*m, gates, sliced, output), 3 * m),
+            Asked::Readout { unread } => format!("(part {} {})", readout(*m, gates, unread, output), 3 * m),
+            Asked::OneColour { read } => {
+                let string = output[read.number()];
+                format!("(one {} {})", settings(*m, gates, read, string), 2 * m)
+            }
         }
     }
 }
@@ -84,13 +94,24 @@ fn amplitude(m: usize, gates: &[Gate], sliced: Colour, output: Strings) -> i64 {
     }
 }
 
-fn count(m: usize, gates: &[Gate], unread: Colour, output: Strings) -> u64 {
+fn readout(m: usize, gates: &[Gate], unread: Colour, output: Strings) -> u64 {
     if m <= FULL_SUM {
         let read = unread.others().map(|colour| output[colour.number()]);
         let counted = FullSum::of(m, gates).readout(unread, read);
         counted.expect("the squares add up to a multiple of 2^(3m)")
     } else {
         totals(&Polynomial::of(m, gates), unread, output).readout
+    }
+}
+
+/// The count N of a string of the one colour that is read.
+fn settings(m: usize, gates: &[Gate], read: Colour, string: u32) -> u64 {
+    if m <= FULL_SUM {
+        let counted = FullSum::of(m, gates).one_colour(read);
+        counted.expect("the squares add up to multiples of 2^(4m)")[string as usize]
+    } else {
+        let [sliced, _] = read.others();
+        one_colour(&Polynomial::of(m, gates), read, sliced, string)
     }
 }
 
@@ -215,16 +236,21 @@ impl Model {
             Form::Start(strings) => circuit.start = strings.each_ref().map(|s| word(s)),
             Form::Drop => self.sum = None,
             Form::Terms => return listing(&Polynomial::of(circuit.m, &circuit.gates).terms()),
-            Form::Amp(colour, strings) => {
+            Form::Amp(sliced, strings) => {
                 let output = strings.each_ref().map(|s| word(s));
-                return self.open(colour, output, false);
+                return self.open(Asked::Amplitude { sliced }, output);
             }
             Form::Part(unread, strings) => {
                 let mut output = [0; 3];
                 for (colour, string) in unread.others().into_iter().zip(&strings) {
                     output[colour.number()] = word(string);
                 }
-                return self.open(unread, output, true);
+                return self.open(Asked::Readout { unread }, output);
+            }
+            Form::One(read, string) => {
+                let mut output = [0; 3];
+                output[read.number()] = word(&string);
+                return self.open(Asked::OneColour { read }, output);
             }
             Form::Step(k) => return self.step(k),
             Form::Circuit(_) => unreachable!(),
@@ -232,14 +258,13 @@ impl Model {
         "(ok)".to_string().into()
     }
 
-    fn open(&mut self, colour: Colour, output: Strings, readout: bool) -> Answer {
+    fn open(&mut self, asked: Asked, output: Strings) -> Answer {
         let circuit = self.circuit.clone().expect("6 is tried before");
         let left = 1 << circuit.m;
         self.sum = Some(Sum {
             circuit,
-            colour,
+            asked,
             output,
-            readout,
             left,
         });
         format!("(left {left})").into()

@@ -11,7 +11,7 @@ pub struct FullSum {
 }
 
 /// A basis string in one word: position p of colour c is bit c m + p - 1.
-fn joined(m: usize, strings: Strings) -> u32 {
+pub fn joined(m: usize, strings: Strings) -> u32 {
     strings[0] | strings[1] << m | strings[2] << (2 * m)
 }
 
@@ -70,6 +70,51 @@ impl FullSum {
         }
         let unit = 1 << (3 * self.m);
         squares.is_multiple_of(unit).then_some((squares / unit) as u64)
+    }
+
+    /// S at every output string, its colours joined in one word. One place of the string after another is decided: a 0
+    /// there adds the strings with a 1 in that place to those with a 0, a 1 takes them off.
+    pub fn amplitudes(&self) -> Vec<i64> {
+        let mut sums = self.signs.clone();
+        for place in 0..3 * self.m {
+            for x in (0..sums.len()).filter(|x| x >> place & 1 == 0) {
+                let (zero, one) = (sums[x], sums[x | 1 << place]);
+                sums[x] = zero + one;
+                sums[x | 1 << place] = zero - one;
+            }
+        }
+        sums
+    }
+
+    /// The counts N with one colour read, for each of its strings X, by squares: 2^(4m) N is the sum of S^2 over the
+    /// strings with X on that colour. None if such a sum is no multiple of 2^(4m).
+    pub fn one_colour(&self, read: Colour) -> Option<Vec<u64>> {
+        let mut squares = vec![0u128; 1 << self.m];
+        for (s, amplitude) in self.amplitudes().into_iter().enumerate() {
+            squares[self.string_of(read, s)] += u128::from(amplitude.unsigned_abs()).pow(2);
+        }
+        let unit = 1 << (4 * self.m);
+        let count = |sum: u128| sum.is_multiple_of(unit).then_some((sum / unit) as u64);
+        squares.into_iter().map(count).collect()
+    }
+
+    /// The same by the words of document 02: each setting of the two unread colours leaves a form in the bits of the
+    /// third, with a 1 where that bit alone turns the sign.
+    pub fn one_colour_by_forms(&self, read: Colour) -> Vec<u64> {
+        let mut counts = vec![0; 1 << self.m];
+        let settings = (0..self.signs.len()).filter(|&x| self.string_of(read, x) == 0);
+        for setting in settings {
+            let beside = |place: usize| setting | 1 << (read.number() * self.m + place);
+            let turns = |place: usize| self.signs[setting] != self.signs[beside(place)];
+            let form: usize = (0..self.m).map(|place| usize::from(turns(place)) << place).sum();
+            counts[form] += 1;
+        }
+        counts
+    }
+
+    /// A colour's string in a word of all three.
+    fn string_of(&self, colour: Colour, joined: usize) -> usize {
+        joined >> (colour.number() * self.m) & ((1 << self.m) - 1)
     }
 
     /// The terms of the phase polynomial, read off the signs: the polynomial whose value at x is 1 where the sign at x is

@@ -1,9 +1,9 @@
-//! The worked examples in the folder examples/. Two inputs are written by hand, two are made here.
+//! The worked examples in the folder examples/. Three inputs are written by hand, two are made here.
 
 use crate::circuits::{full_rank, hypercube};
 use crate::gates::{COLOURS, Colour, Gate, Strings, layer, spelled};
 
-pub const NAMES: [&str; 4] = ["handover", "hypercube", "readout", "session"];
+pub const NAMES: [&str; 5] = ["handover", "hypercube", "one-colour", "readout", "session"];
 
 /// Positions of a colour in the made examples: 48 qubits.
 const M: usize = 16;

@@ -1,5 +1,6 @@
-//! The speed of `session` beside two kernels in Rust, all measured by turns in one run. Prints tables of medians and ratios, and ends
-//! with a failure if the three do not give the same amplitudes.
+//! The speed of `session` beside two kernels in Rust, all measured by turns in one run. Prints tables of medians and
+//! ratios, and ends with a failure if the three do not give the same amplitudes, or if the counts of `session` are not
+//! those of the checks' elimination.
 
 mod measure;
 mod packed;
@@ -14,7 +15,7 @@ use report::{Figures, Samples};
 use std::hint::black_box;
 use std::process::ExitCode;
 use table::Table;
-use waitfield_checks::elimination::{Polynomial, totals};
+use waitfield_checks::elimination::{Polynomial, one_colour, totals};
 use waitfield_checks::gates::{Colour, Gate, Strings, digits, layer, spelled};
 use waitfield_checks::program::Program;
 use waitfield_checks::random::Random;
@@ -38,6 +39,8 @@ struct Work {
     packed: Vec<Packed>,
     plain: Vec<Plain>,
     expected_counts: Vec<i64>,
+    /// With green read.
+    expected_ones: Vec<i64>,
 }
 
 impl Work {
@@ -48,11 +51,13 @@ impl Work {
         let polynomial = Polynomial::of(m, &gates);
         let table = |&output: &Strings| Table::of(m, &polynomial, Colour::Red, output);
         let count = |&output: &Strings| totals(&polynomial, Colour::Red, output).readout as i64;
+        let one = |output: &Strings| one_colour(&polynomial, Colour::Green, Colour::Red, output[2]) as i64;
         Work {
             m,
             packed: outputs.iter().map(|output| Packed::new(&table(output))).collect(),
             plain: outputs.iter().map(|output| Plain::new(table(output))).collect(),
             expected_counts: outputs.iter().map(count).collect(),
+            expected_ones: outputs.iter().map(one).collect(),
             gates,
             outputs,
         }
@@ -76,13 +81,18 @@ impl Work {
         self.outputs.iter().map(sum).collect()
     }
 
-    /// The numbers of the `amp` or `part` lines.
-    fn numbers(&self, output: &[u8], word: &str) -> Vec<i64> {
-        let (prefix, suffix) = (format!("({word} "), format!(" {})", 3 * self.m));
-        let number = |line: &str| line.strip_prefix(&prefix)?.strip_suffix(&suffix)?.parse().ok();
-        let lines = answers(output).0.into_iter();
-        lines.filter_map(|answer| number(&answer.first)).collect()
+    fn ones(&self) -> String {
+        let sum = |output: &Strings| format!("(one g {})\n(step 65536)\n", digits(self.m, output[2]));
+        self.outputs.iter().map(sum).collect()
     }
+}
+
+/// The numbers of the answers with a word and an exponent.
+fn numbers(output: &[u8], word: &str, n: usize) -> Vec<i64> {
+    let (prefix, suffix) = (format!("({word} "), format!(" {n})"));
+    let number = |line: &str| line.strip_prefix(&prefix)?.strip_suffix(&suffix)?.parse().ok();
+    let lines = answers(output).0.into_iter();
+    lines.filter_map(|answer| number(&answer.first)).collect()
 }
 
 /// One round: each contender once, and their numbers compared.
@@ -106,21 +116,24 @@ fn round(work: &Work, program: Option<&Program>, samples: &mut Samples) -> Resul
     }
 }
 
-/// The program's part of a round: the circuit alone, with the amplitudes, and with the counts.
+/// The program's part of a round: the circuit alone, with the amplitudes, with the counts, and with one colour read.
 fn session_round(work: &Work, program: &Program, samples: &mut Samples, amplitudes: &[i64]) -> Result<(), String> {
-    let circuit = work.circuit();
+    let (m, circuit) = (work.m, work.circuit());
     let run = |sums: &str| measure::run(program, [&circuit, sums].concat().as_bytes());
+    let timed = |sums: &str, word: &str, n: usize, expected: &[i64]| {
+        let done = run(sums)?;
+        match numbers(&done.output, word, n) == expected {
+            true => Ok(done.time),
+            false => Err(format!("m = {m}: the numbers of session's ({word} ..) differ")),
+        }
+    };
     samples.circuit.push(run("")?.time);
-    let sliced = run(&work.amplitudes())?;
-    samples.amplitudes.push(sliced.time);
-    if work.numbers(&sliced.output, "amp") != amplitudes {
-        return Err(format!("m = {}: session and the kernels differ", work.m));
-    }
-    let counted = run(&work.counts())?;
-    samples.counts.push(counted.time);
-    if work.numbers(&counted.output, "part") != work.expected_counts {
-        return Err(format!("m = {}: session's counts differ", work.m));
-    }
+    let amplitudes = timed(&work.amplitudes(), "amp", 3 * m, amplitudes)?;
+    samples.amplitudes.push(amplitudes);
+    let counts = timed(&work.counts(), "part", 3 * m, &work.expected_counts)?;
+    samples.counts.push(counts);
+    let ones = timed(&work.ones(), "one", 2 * m, &work.expected_ones)?;
+    samples.ones.push(ones);
     Ok(())
 }
 

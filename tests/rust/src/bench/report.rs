@@ -8,10 +8,11 @@ use std::time::Duration;
 pub struct Samples {
     pub packed: Vec<Duration>,
     pub plain: Vec<Duration>,
-    /// The program on the circuit alone, with amplitudes, and with readout counts.
+    /// The program on the circuit alone, with amplitudes, with readout counts, and with counts of one colour read.
     pub circuit: Vec<Duration>,
     pub amplitudes: Vec<Duration>,
     pub counts: Vec<Duration>,
+    pub ones: Vec<Duration>,
 }
 
 /// Medians for one m, in nanoseconds a slice.
@@ -26,6 +27,7 @@ pub struct Figures {
 struct Session {
     amplitude: f64,
     count: f64,
+    one: f64,
 }
 
 impl Figures {
@@ -37,6 +39,7 @@ impl Figures {
             Session {
                 amplitude: beyond(samples.amplitudes),
                 count: beyond(samples.counts),
+                one: beyond(samples.ones),
             }
         });
         Figures {
@@ -47,13 +50,17 @@ impl Figures {
         }
     }
 
-    /// Session / packed, session / plain, readout / amplitude.
-    fn ratios(&self) -> [Option<f64>; 3] {
+    /// Session / packed, session / plain, readout / amplitude, one colour / amplitude.
+    fn ratios(&self) -> [Option<f64>; 4] {
         match &self.session {
-            Some(Session { amplitude, count }) => {
-                [amplitude / self.packed, amplitude / self.plain, count / amplitude].map(Some)
-            }
-            None => [None; 3],
+            Some(Session { amplitude, count, one }) => [
+                amplitude / self.packed,
+                amplitude / self.plain,
+                count / amplitude,
+                one / amplitude,
+            ]
+            .map(Some),
+            None => [None; 4],
         }
     }
 
@@ -70,15 +77,16 @@ impl Figures {
 }
 
 /// Cells of a table.
-fn cells(values: [Option<f64>; 3], places: usize) -> String {
+fn cells<const N: usize>(values: [Option<f64>; N], places: usize) -> String {
     let cell = |value: Option<f64>| value.map_or("-".to_string(), |value| format!("{value:.places$}"));
     values.map(cell).join(" | ")
 }
 
 pub fn print(all: &[Figures]) {
     println!("Nanoseconds a slice, and ratios.\n");
-    println!("| m | packed Rust | plain Rust | session | session / packed | session / plain | readout / amplitude |");
-    println!("|---|---|---|---|---|---|---|");
+    let ratios = "session / packed | session / plain | readout / amplitude | one colour / amplitude";
+    println!("| m | packed Rust | plain Rust | session | {ratios} |");
+    println!("|---|---|---|---|---|---|---|---|");
     for figures in all {
         let (times, ratios) = (cells(figures.times(), 1), cells(figures.ratios(), 2));
         println!("| {} | {times} | {ratios} |", figures.m);

@@ -30,11 +30,20 @@ const SLOWLY: Pace = Pace {
 /// Control-D.
 const END_OF_INPUT: &[u8] = b"\x04";
 
-/// So many lines with answers, every form and some refusals among them.
-pub fn lines(count: usize) -> Vec<String> {
+/// Lines with answers, every form and some refusals among them. No sum is open after the last.
+fn round() -> Vec<String> {
     let listing = LISTING.into_iter().map(|(line, _)| line);
-    let all: Vec<&str> = EVERY_FORM.lines().chain(listing).collect();
-    all.into_iter().cycle().take(count).map(str::to_string).collect()
+    EVERY_FORM.lines().chain(listing).map(str::to_string).collect()
+}
+
+/// So many of these lines, over and over.
+fn lines(count: usize) -> Vec<String> {
+    round().into_iter().cycle().take(count).collect()
+}
+
+/// All of these lines so many times, so that a new circuit is taken after them.
+pub fn rounds(count: usize) -> Vec<String> {
+    lines(count * round().len())
 }
 
 /// Takes the answer to a line that has been given.

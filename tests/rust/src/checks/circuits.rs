@@ -11,7 +11,7 @@ use waitfield_checks::script::Script;
 const CIRCUITS: usize = 60;
 
 /// Lines that an open sum turns back, with their refusals; none changes it.
-const BETWEEN: [(&str, &str); 12] = [
+const BETWEEN: [(&str, &str); 13] = [
     ("(ccz 1 1 1)", "(no 7)"),
     ("(undo 1)", "(no 7)"),
     ("(terms)", "(no 7)"),
@@ -19,6 +19,7 @@ const BETWEEN: [(&str, &str); 12] = [
     ("(start 1 1 1)", "(no 7)"),
     ("(amp b 1 0 1)", "(no 7)"),
     ("(part g 0 0)", "(no 7)"),
+    ("(one r 0)", "(no 7)"),
     ("(layer (cnot r 1 1))", "(no 7)"),
     ("(step 0)", "(no 9)"),
     ("(step 65537)", "(no 9)"),

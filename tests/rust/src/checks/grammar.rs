@@ -113,6 +113,7 @@ impl Writer {
             17 => format!("(undo {})", self.number(HISTORY)),
             18..=21 => format!("(undo {})", self.number(4)),
             22..=25 => self.layer(),
+            26..=28 => format!("(one {} {})", self.colour(), self.bits()),
             _ => self.gate(),
         }
     }
@@ -167,9 +168,9 @@ pub fn covered(checks: &mut Checks, script: &Script, name: &str, answers: &[&str
     }
 }
 
-const MET: [&str; 16] = [
-    "(ok)", "(left ", "(amp ", "(amp -", "(part ", "(terms ", "(no 2)", "(no 3)", "(no 4)", "(no 5)", "(no 7)",
-    "(no 8)", "(no 9)", "(no 10)", "(no 11)", "(no 12)",
+const MET: [&str; 17] = [
+    "(ok)", "(left ", "(amp ", "(amp -", "(part ", "(one ", "(terms ", "(no 2)", "(no 3)", "(no 4)", "(no 5)",
+    "(no 7)", "(no 8)", "(no 9)", "(no 10)", "(no 11)", "(no 12)",
 ];
 
 fn any_lines(checks: &mut Checks, writer: &mut Writer, seed: u64) {

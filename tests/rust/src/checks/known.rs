@@ -56,6 +56,16 @@ pub fn known_sums() -> Vec<Known> {
 /// Readout counts for m = 1 and one CCZ, red unread.
 const COUNTS: [(&str, u64); 4] = [("0 0", 5), ("0 1", 1), ("1 0", 1), ("1 1", 1)];
 
+/// Counts N for m = 1 and one CCZ, green read: the start, the string of green, N. The start's ones of green are added
+/// to the string, those of the unread colours do not matter.
+pub const ONE_COLOUR: [(&str, &str, u64); 5] = [
+    ("0 0 0", "0", 3),
+    ("0 0 0", "1", 1),
+    ("1 1 0", "0", 3),
+    ("0 0 1", "0", 1),
+    ("1 0 1", "1", 3),
+];
+
 fn sums(checks: &mut Checks) {
     let mut script = Script::default();
     for Known { m, gates, sums } in known_sums() {
@@ -75,6 +85,14 @@ fn sums(checks: &mut Checks) {
         script.say("(ccz 1 1 1)", "(ok)");
         script.say(format!("(part r {read})"), "(left 2)");
         script.line("(step 2)", format!("(part {count} 3)"));
+    }
+    for (start, read, count) in ONE_COLOUR {
+        script.case(format!("N at {read} after a CCZ started at {start}, green read"));
+        script.say("(circuit 1)", "(ok)");
+        script.say("(ccz 1 1 1)", "(ok)");
+        script.say(format!("(start {start})"), "(ok)");
+        script.say(format!("(one g {read})"), "(left 2)");
+        script.line("(step 2)", format!("(one {count} 2)"));
     }
     script.case("two terms after a CCZ and a CNOT");
     script.say("(circuit 2)", "(ok)");

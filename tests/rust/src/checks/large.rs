@@ -9,7 +9,7 @@ use waitfield_checks::model::listing;
 use waitfield_checks::random::Random;
 use waitfield_checks::script::Script;
 
-fn circuit(script: &mut Script, m: usize, layers: &[Vec<Gate>]) {
+pub fn circuit(script: &mut Script, m: usize, layers: &[Vec<Gate>]) {
     script.line(format!("(circuit {m})"), "(ok)".to_string());
     layers.iter().for_each(|gates| script.say(layer(gates), "(ok)"));
 }

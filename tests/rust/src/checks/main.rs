@@ -10,6 +10,7 @@ mod history;
 mod known;
 mod large;
 mod middle;
+mod one_colour;
 mod own;
 mod readouts;
 mod refusals;
@@ -79,6 +80,7 @@ groups! {
     "known sums and edges": known,
     "random circuits": circuits,
     "readout counts": readouts,
+    "one colour read": one_colour,
     "middle circuits": middle,
     "large circuits": large,
     "refusals": refusals,

@@ -10,7 +10,7 @@ use waitfield_checks::model::listing;
 use waitfield_checks::random::Random;
 use waitfield_checks::script::Script;
 
-const SIZES: std::ops::RangeInclusive<usize> = 5..=12;
+pub const SIZES: std::ops::RangeInclusive<usize> = 5..=12;
 
 /// Circuits of each m for a seed. Every third is left sparse.
 const CIRCUITS: usize = 12;
@@ -22,7 +22,7 @@ const LAYERS: usize = 6;
 const MET: [&str; 2] = ["(amp -", "(no 7)"];
 
 /// Whole layers behind a circuit, and some of their gates taken back.
-fn thicken(script: &mut Script, random: &mut Random, m: usize, gates: &mut Vec<Gate>) {
+pub fn thicken(script: &mut Script, random: &mut Random, m: usize, gates: &mut Vec<Gate>) {
     for _ in 0..LAYERS {
         let several = random.gates(m, 48);
         script.say(layer(&several), "(ok)");

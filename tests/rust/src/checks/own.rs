@@ -1,15 +1,20 @@
-//! The reference, the elimination and the model against document 01 and against each other, without the program.
+//! The reference, the elimination and the model against documents 01 and 02 and against each other, without the
+//! program.
 
 use crate::Checks;
-use crate::known::{LISTING, known_sums};
-use waitfield_checks::elimination::{Polynomial, totals};
-use waitfield_checks::gates::{COLOURS, Strings, word};
+use crate::known::{LISTING, ONE_COLOUR, known_sums};
+use std::fmt::Debug;
+use waitfield_checks::elimination::{Polynomial, one_colour, totals};
+use waitfield_checks::gates::{COLOURS, Colour, Strings, word};
 use waitfield_checks::model::Model;
 use waitfield_checks::random::Random;
-use waitfield_checks::reference::FullSum;
+use waitfield_checks::reference::{FullSum, joined};
 
 /// Circuits for a seed at each m. The full sum at m = 5 and 6 takes its time.
 const CIRCUITS: [(usize, usize); 6] = [(1, 25), (2, 25), (3, 25), (4, 25), (5, 10), (6, 2)];
+
+/// The largest m at which all readout counts of the full sum are added up.
+const READOUTS: usize = 3;
 
 fn strings(text: &str) -> Strings {
     let words: Vec<u32> = text.split(' ').map(word).collect();
@@ -30,6 +35,18 @@ fn known(checks: &mut Checks) {
         checks
             .tally
             .equal(&format!("the model on {line}"), found.as_deref(), Some(answer));
+    }
+}
+
+/// The model on a circuit with one CCZ at m = 1.
+fn known_one_colour(checks: &mut Checks) {
+    for (start, read, count) in ONE_COLOUR {
+        let lines = format!("(circuit 1)\n(ccz 1 1 1)\n(start {start})\n(one g {read})\n(step 1)\n(step 1)\n");
+        let answers = Model::session(lines.as_bytes()).into_iter().map(|answer| answer.first);
+        let last: Vec<String> = answers.skip(3).collect();
+        let expected = ["(left 2)".into(), "(left 1)".into(), format!("(one {count} 2)")];
+        let name = format!("the model on (one g {read}) started at {start}");
+        checks.tally.equal(&name, last, expected.to_vec());
     }
 }
 
@@ -64,14 +81,76 @@ fn agreement(random: &mut Random, m: usize) -> Result<(), String> {
     Ok(())
 }
 
+/// The sums of T over the strings of the third colour, for each string of the one colour that is read.
+fn sums_of_readouts(full: &FullSum, m: usize, read: Colour, unread: Colour) -> Option<Vec<u64>> {
+    let sum = |string: u32| {
+        let readout = |other: u32| {
+            let strings = unread
+                .others()
+                .map(|colour| if colour == read { string } else { other });
+            full.readout(unread, strings)
+        };
+        (0..1 << m).map(readout).sum()
+    };
+    (0..1 << m).map(sum).collect()
+}
+
+fn same<T: PartialEq + Debug>(ways: &str, found: T, expected: T) -> Result<(), String> {
+    match found == expected {
+        true => Ok(()),
+        false => Err(format!("{ways}: {found:?} and {expected:?}")),
+    }
+}
+
+/// The counts with one colour read: by the squares of all amplitudes, by the forms left over, by elimination on either
+/// unread colour, and where that is quick by the readout counts of the full sum.
+fn ways_to_one_colour(full: &FullSum, polynomial: &Polynomial, m: usize, read: Colour) -> Result<(), String> {
+    let squares = full.one_colour(read).ok_or("squares that are no multiple of 2^(4m)")?;
+    same("the total and 2^(2m)", squares.iter().sum(), 1u64 << (2 * m))?;
+    same("forms and squares", full.one_colour_by_forms(read), squares.clone())?;
+    for other in read.others() {
+        let eliminated = (0..1 << m).map(|string| one_colour(polynomial, read, other, string));
+        same("elimination and squares", eliminated.collect(), squares.clone())?;
+        if m <= READOUTS {
+            let sums = sums_of_readouts(full, m, read, other).ok_or("squares that are no multiple of 2^(3m)")?;
+            let counts = squares.iter().map(|count| count << m).collect();
+            same("readouts and squares", sums, counts)?;
+        }
+    }
+    Ok(())
+}
+
+/// A random circuit with every colour read in turn.
+fn one_colour_agreement(random: &mut Random, m: usize) -> Result<(), String> {
+    let count = random.below(40);
+    let gates = random.gates(m, count);
+    let full = FullSum::of(m, &gates);
+    let polynomial = Polynomial::of(m, &gates);
+    let output = random.strings(m);
+    let s = full.amplitudes()[joined(m, output) as usize];
+    same("S of all strings and of one", s, full.amplitude(output))
+        .and_then(|()| {
+            let mut colours = COLOURS.into_iter();
+            colours.try_for_each(|read| ways_to_one_colour(&full, &polynomial, m, read))
+        })
+        .map_err(|difference| format!("{difference} after {gates:?}"))
+}
+
 pub fn check(checks: &mut Checks) {
     known(checks);
+    known_one_colour(checks);
     for seed in checks.seeds.clone() {
         let mut random = Random::new(seed);
         for (m, circuits) in CIRCUITS {
             for number in 0..circuits {
                 let name = format!("full sum and elimination, seed {seed}, m = {m}, circuit {number}");
                 checks.tally.check(&name, agreement(&mut random, m));
+            }
+        }
+        for (m, circuits) in CIRCUITS {
+            for number in 0..circuits {
+                let name = format!("one colour read, seed {seed}, m = {m}, circuit {number}");
+                checks.tally.check(&name, one_colour_agreement(&mut random, m));
             }
         }
     }

@@ -3,6 +3,7 @@
 use crate::Checks;
 use crate::circuits::sum;
 use waitfield_checks::gates::{COLOURS, Colour, Gate, Strings, digits, spelled};
+use waitfield_checks::program::Program;
 use waitfield_checks::random::Random;
 use waitfield_checks::reference::FullSum;
 use waitfield_checks::script::{Script, answers};
@@ -25,28 +26,34 @@ fn counts(script: &mut Script, random: &mut Random, full: &FullSum, m: usize, st
     }
 }
 
-fn part(m: usize, unread: Colour, [x, y]: [u32; 2]) -> String {
+pub fn part(m: usize, unread: Colour, [x, y]: [u32; 2]) -> String {
     format!("(part {unread} {} {})", digits(m, x), digits(m, y))
 }
 
+/// The lines that give a circuit.
+pub fn given(m: usize, gates: &[Gate]) -> String {
+    let gates: Vec<String> = gates.iter().map(|gate| format!("{gate}\n")).collect();
+    format!("(circuit {m})\n{}", gates.concat())
+}
+
+/// The program's own counts after some lines: the numbers N of its answers `(WORD N n)` to the sums that are opened.
+pub fn counted(program: &Program, before: &str, opened: &[String], word: &str, n: usize) -> Result<Vec<u64>, String> {
+    let worked: Vec<String> = opened.iter().map(|line| format!("{line}\n(step 65536)\n")).collect();
+    let output = program.run([before, &worked.concat()].concat().as_bytes())?;
+    let (prefix, suffix) = (format!("({word} "), format!(" {n})"));
+    let count = |line: &str| line.strip_prefix(&prefix)?.strip_suffix(&suffix)?.parse().ok();
+    let answers = answers(&output).0.into_iter();
+    let counts: Vec<u64> = answers.filter_map(|answer| count(&answer.first)).collect();
+    match counts.len() == opened.len() {
+        true => Ok(counts),
+        false => Err(format!("{} counts of {}", counts.len(), opened.len())),
+    }
+}
+
 /// The program's own counts over all pairs of read strings: they add up to 2^(3m), whatever the circuit.
-fn total(checks: &mut Checks, m: usize, gates: &[Gate], unread: Colour) -> Result<u64, String> {
-    let mut input = format!("(circuit {m})\n");
-    for gate in gates {
-        input += &format!("{gate}\n");
-    }
-    for pair in 0..1 << (2 * m) {
-        let read = [pair & ((1 << m) - 1), pair >> m];
-        input += &format!("{}\n(step 65536)\n", part(m, unread, read));
-    }
-    let output = checks.program.run(input.as_bytes())?;
-    let suffix = format!(" {})", 3 * m);
-    let count = |line: &str| line.strip_prefix("(part ")?.strip_suffix(&suffix)?.parse().ok();
-    let lines: Vec<String> = answers(&output).0.into_iter().map(|answer| answer.first).collect();
-    let counts: Vec<u64> = lines.iter().filter_map(|line| count(line)).collect();
-    if counts.len() != 1 << (2 * m) {
-        return Err(format!("{} counts of {}", counts.len(), 1 << (2 * m)));
-    }
+fn total(program: &Program, m: usize, gates: &[Gate], unread: Colour) -> Result<u64, String> {
+    let pairs = (0..1 << (2 * m)).map(|pair| part(m, unread, [pair & ((1 << m) - 1), pair >> m]));
+    let counts = counted(program, &given(m, gates), &pairs.collect::<Vec<_>>(), "part", 3 * m)?;
     Ok(counts.iter().sum())
 }
 
@@ -73,7 +80,7 @@ pub fn check(checks: &mut Checks) {
             let gates = random.gates(m, 12 * m);
             let unread = random.colour();
             let name = format!("counts add up to 2^(3m), seed {seed}, m = {m}, {unread} unread");
-            let found = total(checks, m, &gates, unread);
+            let found = total(&checks.program, m, &gates, unread);
             checks.tally.equal(&name, found, Ok(1 << (3 * m)));
         }
     }

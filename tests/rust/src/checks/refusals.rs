@@ -20,15 +20,17 @@ pub enum Moment {
     Held,
     /// The same with a sum open.
     Open,
+    /// The same with a count of one colour read open.
+    OneOpen,
     /// Two positions a colour and 4,096 gates.
     Full,
     /// The same with a sum open.
     FullOpen,
 }
 
-use Moment::{Fresh, Full, FullOpen, Held, Open};
+use Moment::{Fresh, Full, FullOpen, Held, OneOpen, Open};
 
-const MOMENTS: [Moment; 5] = [Fresh, Held, Open, Full, FullOpen];
+const MOMENTS: [Moment; 6] = [Fresh, Held, Open, OneOpen, Full, FullOpen];
 
 /// The gate that is held.
 const GATE: Gate = Gate::Ccz {
@@ -48,30 +50,35 @@ fn begin(script: &mut Script, moment: Moment) {
         _ => script.say(GATE.to_string(), "(ok)"),
     }
     script.say("(start 00 01 00)", "(ok)");
-    if matches!(moment, Open | FullOpen) {
-        script.say("(amp b 00 01 00)", "(left 4)");
-        script.say("(step 1)", "(left 3)");
-    }
+    let opened = match moment {
+        Open | FullOpen => "(amp b 00 01 00)",
+        OneOpen => "(one b 01)",
+        _ => return,
+    };
+    script.say(opened, "(left 4)");
+    script.say("(step 1)", "(left 3)");
 }
 
-/// The lines that show what is held: S is 48 with one CCZ, 64 with none or an even number of the same.
+/// The lines that show what is held. S is 48 with one CCZ, T 40 and N 12; with none or an even number of the same they
+/// are 64, 64 and 16.
 fn end(script: &mut Script, moment: Moment) {
     script.case(format!("{moment:?}: nothing changed"));
-    let (gates, s) = match moment {
+    let (gates, terms, [amplitude, readout, one_colour]): (usize, &[Gate], _) = match moment {
         Fresh => return script.say("(circuit 2)", "(ok)"),
-        Held | Open => (1, 48),
-        Full | FullOpen => (HISTORY, 64),
+        Held | Open | OneOpen => (1, &[GATE], ["(amp 48 6)", "(part 40 6)", "(one 12 4)"]),
+        Full | FullOpen => (HISTORY, &[], ["(amp 64 6)", "(part 64 6)", "(one 16 4)"]),
     };
-    if matches!(moment, Open | FullOpen) {
+    if matches!(moment, Open | OneOpen | FullOpen) {
         script.say("(step 2)", "(left 1)");
-        script.line("(step 1)", format!("(amp {s} 6)"));
+        script.say("(step 1)", if moment == OneOpen { one_colour } else { amplitude });
     }
-    let terms: &[Gate] = if s == 48 { &[GATE] } else { &[] };
     script.line("(terms)", listing(terms));
     script.say("(amp r 00 01 00)", "(left 4)");
-    script.line("(step 4)", format!("(amp {s} 6)"));
+    script.say("(step 4)", amplitude);
     script.say("(part g 00 01)", "(left 4)");
-    script.say("(step 4)", if s == 48 { "(part 40 6)" } else { "(part 64 6)" });
+    script.say("(step 4)", readout);
+    script.say("(one b 01)", "(left 4)");
+    script.say("(step 4)", one_colour);
     script.line(format!("(undo {gates})"), "(ok)".to_string());
     script.say("(undo 1)", "(no 12)");
 }

@@ -42,6 +42,13 @@ const NO_FORM: &[&str] = &[
     // part
     "(part)", "(part r)", "(part r 00)", "(part r 00 00 00)", "(part 00 00)", "(part r 03 00)", "(part x 00 00)",
     "(part r 00 00 )", "(part r  00 00)", "(parts r 00 00)", "(part rr 00 00)",
+    // one
+    "(one)", "(one )", "(one r)", "(one r )", "(one 00)", "(one 00 r)", "(one r 00 00)", "(one r 00 00 00)",
+    "(one x 00)", "(one 0 00)", "(one rr 00)", "(one rb 00)", "(one r b 00)", "(one red 00)", "(one (r) 00)",
+    "(one (r 00))", "(one r (00))", "(one r 02)", "(one r 20)", "(one r 0a)", "(one r r)", "(one r 00 )", "(one r  00)",
+    "(one  r 00)", "( one r 00)", " (one r 00)", "(one r 00) ", "(one r00)", "(oner 00)", "(ones r 00)", "(on r 00)",
+    "(one r 00", "one r 00", "(one r 00))", "((one r 00))", "(one r 00)0", "(one r 00)(one r 00)", "(layer (one r 00))",
+    "(1 r 00)", "(one 12 4)",
     // drop, terms
     "(drop )", "( drop)", "(drop 1)", "drop", "(drop", "(drop)(drop)", "(dropp)", "(dro)", "(drop) (terms)",
     "(terms )", "( terms)", "(terms 1)", "(term)", "terms", "(terms) ", "(termss)", "((terms))",

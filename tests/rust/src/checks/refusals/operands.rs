@@ -1,6 +1,6 @@
 //! Refusals 6 to 13 at the edges of their ranges.
 
-use super::Moment::{Fresh, Full, FullOpen, Held, Open};
+use super::Moment::{Fresh, Full, FullOpen, Held, OneOpen, Open};
 use super::{GATE, Refused, refused};
 use waitfield_checks::gates::layer;
 
@@ -15,6 +15,9 @@ const TAKEN: &[&str] = &[
     "(start 00 00 00)",
     "(amp r 00 00 00)",
     "(part r 00 00)",
+    "(one r 00)",
+    "(one b 11)",
+    "(one g 01)",
     "(terms)",
 ];
 
@@ -96,6 +99,12 @@ const OTHER_LENGTH: &[&str] = &[
     "(part b 00 0)",
     "(part g 000 00)",
     "(part r 00 000)",
+    "(one r 0)",
+    "(one b 1)",
+    "(one g 0)",
+    "(one r 000)",
+    "(one b 111)",
+    "(one g 0000000000000000)",
 ];
 
 fn all(lines: &[&str], moments: &[super::Moment], number: u32, why: &str) -> Vec<Refused> {
@@ -116,7 +125,7 @@ fn long_operands() -> Vec<Refused> {
         ));
         lines.push(refused(
             format!("(step {number})"),
-            &[Open, FullOpen],
+            &[Open, OneOpen, FullOpen],
             9,
             "a long number",
         ));
@@ -138,13 +147,14 @@ fn long_operands() -> Vec<Refused> {
             11,
             "a long string",
         ));
+        lines.push(refused(format!("(one g {bits})"), &[Held, Full], 11, "a long string"));
     }
     lines
 }
 
 pub fn table() -> Vec<Refused> {
     let no_sum = [Held, Full];
-    let sum = [Open, FullOpen];
+    let sum = [Open, OneOpen, FullOpen];
     let mut lines = vec![
         refused("(circuit 1)", &sum, 7, "a sum is open"),
         refused("(circuit 16)", &sum, 7, "a sum is open"),

@@ -2,7 +2,7 @@
 //! 3 stands here beside what the line would get without the byte. Pairs that are not here never meet: 9 and 11, 6 and 7, 7 and 8,
 //! 6 and 13 in a program that lends 4,096 places, 5 or 8 beside what only other forms get, and any two of 11, 12 and 13.
 
-use super::Moment::{Fresh, Full, FullOpen, Held, Open};
+use super::Moment::{Fresh, Full, FullOpen, Held, OneOpen, Open};
 use super::{GATE, MOMENTS, Moment, Refused, refused};
 use waitfield_checks::gates::{Colour::Red, Gate};
 use waitfield_checks::gates::{cz, layer};
@@ -12,18 +12,22 @@ type Pair = (u32, u32, &'static [Moment], &'static str);
 
 const ANY: &[Moment] = &MOMENTS;
 const NO_SUM: &[Moment] = &[Held, Full];
-const SUM: &[Moment] = &[Open, FullOpen];
+const SUM: &[Moment] = &[Open, OneOpen, FullOpen];
 
 const PAIRS: &[Pair] = &[
     (3, 4, ANY, "(term)\r"),
     (3, 4, ANY, "(Terms )"),
+    (3, 4, ANY, "(one r 02)\r"),
     (3, 5, ANY, "(cz (r 1) (r 1))\r"),
     (3, 6, &[Fresh], "(terms)\r"),
+    (3, 6, &[Fresh], "(one r 00)\r"),
     (3, 7, SUM, "(terms)\r"),
+    (3, 7, SUM, "(one r 00)\r"),
     (3, 8, NO_SUM, "(drop)\r"),
     (3, 9, NO_SUM, "(undo 0)\r"),
     (3, 10, NO_SUM, "(cnot r 1 1)\r"),
     (3, 11, NO_SUM, "(start 0 0 0)\r"),
+    (3, 11, NO_SUM, "(one r 0)\r"),
     (3, 12, &[Held], "(undo 4096)\r"),
     (3, 13, &[Full], "(ccz 1 1 1)\r"),
     (4, 5, ANY, "(layer (cz (r 1) (r 2)) (ccz 1 1))"),
@@ -33,8 +37,11 @@ const PAIRS: &[Pair] = &[
     (4, 5, ANY, "(cz (r 1) (r 1) )"),
     (4, 6, &[Fresh], "(undo 01)"),
     (4, 6, &[Fresh], "(start 0 0 2)"),
+    (4, 6, &[Fresh], "(one r 2)"),
     (4, 7, SUM, "(circuit 01)"),
     (4, 7, SUM, "(amp r 00 00 02)"),
+    (4, 7, SUM, "(one r 02)"),
+    (4, 7, SUM, "(one r 00 00)"),
     (4, 8, NO_SUM, "(step 00)"),
     (4, 8, NO_SUM, "(drop 1)"),
     (4, 9, NO_SUM, "(ccz 3 1 01)"),
@@ -43,6 +50,9 @@ const PAIRS: &[Pair] = &[
     (4, 11, NO_SUM, "(start 0 2 0)"),
     (4, 11, NO_SUM, "(amp r 0 00 03)"),
     (4, 11, NO_SUM, "(part r 2 00000)"),
+    (4, 11, NO_SUM, "(one r 002)"),
+    (4, 11, NO_SUM, "(one x 0)"),
+    (4, 11, NO_SUM, "(one r 0 000)"),
     (4, 12, &[Held], "(undo 0999)"),
     (4, 13, &[Full], "(layer (ccz 1 1 1) (ccz 1 1 1) )"),
     (5, 6, &[Fresh], "(cz (r 1) (r 2))"),
@@ -64,6 +74,7 @@ const PAIRS: &[Pair] = &[
     (6, 10, &[Fresh], "(layer (cnot r 1 1))"),
     (6, 11, &[Fresh], "(start 00000000000000000 0 00)"),
     (6, 11, &[Fresh], "(part b 0 00)"),
+    (6, 11, &[Fresh], "(one b 00000000000000000)"),
     (6, 12, &[Fresh], "(undo 1)"),
     (7, 9, SUM, "(circuit 0)"),
     (7, 9, SUM, "(circuit 17)"),
@@ -76,8 +87,10 @@ const PAIRS: &[Pair] = &[
     (7, 11, SUM, "(start 0 00 00)"),
     (7, 11, SUM, "(amp r 0 0 0)"),
     (7, 11, SUM, "(part r 000 00)"),
-    (7, 12, &[Open], "(undo 2)"),
-    (7, 12, &[Open], "(undo 4096)"),
+    (7, 11, SUM, "(one r 0)"),
+    (7, 11, SUM, "(one g 000)"),
+    (7, 12, &[Open, OneOpen], "(undo 2)"),
+    (7, 12, &[Open, OneOpen], "(undo 4096)"),
     (7, 13, &[FullOpen], "(ccz 1 1 1)"),
     (7, 13, &[FullOpen], "(layer (ccz 1 1 1) (cnot r 1 2))"),
     (8, 9, NO_SUM, "(step 0)"),
@@ -138,6 +151,8 @@ fn too_long() -> Vec<Refused> {
         refused(layer(&[GATE; 100]), NO_SUM, 2, "over 9"),
         refused(format!("(cnot r {ones} {ones})"), NO_SUM, 2, "over 10"),
         refused(format!("(start {zeros} 00 00)"), NO_SUM, 2, "over 11"),
+        refused(format!("(one r {zeros})"), NO_SUM, 2, "over 11"),
+        refused(format!("(one r {zeros})"), SUM, 2, "over 7"),
         refused(format!("(undo {ones})"), &[Held], 2, "over 12"),
         refused(layer(&[GATE; 90]), &[Full], 2, "over 13"),
     ]

@@ -3,7 +3,7 @@
 
 use super::{Outcome, ended_with_line, failed};
 use crate::Checks;
-use crate::at_once::{ask_all, ends_by_hang_up, ends_in_silence, lines, listing_read_slowly};
+use crate::at_once::{ask_all, ends_by_hang_up, ends_in_silence, listing_read_slowly, rounds};
 use std::process::Command;
 use std::thread;
 use std::time::Duration;
@@ -126,7 +126,7 @@ fn input_in_bursts(program: &Program, ends: Ends) -> Outcome {
     let mut talk = started(program.command(), ends)?;
     let mut model = Model::default();
     waits_asleep(&mut talk)?;
-    ask_all(&mut talk, &mut model, &lines(100))?;
+    ask_all(&mut talk, &mut model, &rounds(4))?;
     thread::sleep(A_WHILE);
     talk.give(b"(circu")?;
     thread::sleep(A_WHILE);
@@ -164,7 +164,7 @@ fn terminal(program: &Program) -> Outcome {
     let input = input.nonblocking().map_err(failed)?;
     let mut talk = Conversation::start(program.command(), input, output)?;
     waits_asleep(&mut talk)?;
-    ask_all(&mut talk, &mut Model::default(), &lines(100))?;
+    ask_all(&mut talk, &mut Model::default(), &rounds(4))?;
     listing_read_slowly(&mut talk)?;
     ends_by_hang_up(talk)
 }
@@ -173,7 +173,7 @@ fn terminal(program: &Program) -> Outcome {
 fn stopped(program: &Program, ends: Ends) -> Outcome {
     let mut talk = started(program.command(), ends)?;
     let mut model = Model::default();
-    let all = lines(100);
+    let all = rounds(4);
     for several in all.chunks(10) {
         thread::sleep(Duration::from_millis(10));
         send(talk.child(), STOP).map_err(failed)?;
