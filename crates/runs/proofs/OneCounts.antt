@@ -29,7 +29,7 @@ use Rattle.held.specs.Memory.{Long, SoundCircuit}
 use Rattle.forms.specs.Typed.{one}
 use Rattle.sums.specs.Tables.{output}
 use Rattle.sums.proofs.Openings.{parts-long}
-use Rattle.sums.proofs.WorkedSlices.{string-long}
+use Rattle.sums.proofs.WorkedSlices.{start-joined, string-long}
 use Rattle.runs.specs.Runs.{square}
 use Rattle.runs.proofs.Counts.{Counted}
 
@@ -52,13 +52,6 @@ one-counted b C X t n s long h k =
     }
 
 -- ---- the sum of the squares
-
--- The start added to a string, colour by colour.
-start-joined : (C : Colour) (t : Basis) (x u v : BitString) → withStart t (join C x u v) ≡ join C (x ⊞ the C t) (u ⊞ first C t) (v ⊞ second C t)
-unfolding withStart join the first second
-start-joined Red t x u v = refl
-start-joined Blue t x u v = refl
-start-joined Green t x u v = refl
 
 -- A string added to each of the unread colours' strings leaves the sum over all of them as it is.
 moved : (m : ℕ) (a b : BitString) (f : BitString → BitString → ℤ) → length a ≡ m → length b ≡ m →

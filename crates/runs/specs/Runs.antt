@@ -217,7 +217,7 @@ pub record Opening (calls : List Call) : Type 0 where
 abbrev pub IsTotal : Asked → List ℕ → Type 0
 IsTotal (amp C r b g) a = (s : ℤ) × (n : ℕ) × (a ≡ bytesOf (Answer.Amplitude s n))
 IsTotal (part C x y) a = (t : ℕ) × (n : ℕ) × (a ≡ bytesOf (Answer.Readout t n))
-IsTotal (one C x) a = (t : ℕ) × (n : ℕ) × (a ≡ bytesOf (Answer.OneColour t n))
+IsTotal (one C x) a = (t : ℕ) × (k : ℕ) × (a ≡ bytesOf (Answer.OneColour t k))
 
 -- The amplitude of the last sum opened, which was an `amp` (Manual 11.6): the signed sum of the gates that the book then held, at the output string
 -- with the book's start added, whichever colour was sliced.
@@ -229,15 +229,15 @@ pub record Amplitude (calls : List Call) (s : ℤ) (n : ℕ) : Type 0 where
   pub exponent : n ≡ 3 * book .m
   pub sum : s ≡ signedSum (book .m) (book .gates) (withStart (book .start) output)
 
--- The count of the last sum opened, which was a `one` (Manual 11.7): n = 2m, and 2^(4m) times N is the sum of S(s)^2 over the 2^(2m) strings s with
+-- The count of the last sum opened, which was a `one` (Manual 11.7): k = 2m, and 2^(4m) times N is the sum of S(s)^2 over the 2^(2m) strings s with
 -- X on C, S being the signed sum of the gates that the book then held, at s with the book's start added.
-pub record OneColour (calls : List Call) (t n : ℕ) : Type 0 where
+pub record OneColour (calls : List Call) (t k : ℕ) : Type 0 where
   pub colour : Colour
   pub x : BitString
   pub book : Circuit
   pub latest : logOf calls .opened ≡ last (record { asked = one colour x; book = book })
   pub some : 1 ≤ book .m
-  pub exponent : n ≡ 2 * book .m
+  pub exponent : k ≡ 2 * book .m
   pub squares : pos (2 ^ (4 * book .m)) *ℤ pos t ≡
       sum (book .m) (λ u. sum (book .m) (λ v. square (signedSum (book .m) (book .gates) (withStart (book .start) (join colour x u v)))))
 
@@ -279,17 +279,17 @@ pub record SoundRun (calls : List Call) : Type 0 where
       answerOf c ≡ bytesOf (Answer.Amplitude s n) → Amplitude before s n
   -- every `(one N k)` is the count of the last sum opened (Manual 11.7)
   pub oneColour :
-      (before : List Call) (c : LineCall) (after : List Call) (t n : ℕ) → calls ≡ before ++ (line c ∷ after) →
-      answerOf c ≡ bytesOf (Answer.OneColour t n) → OneColour before t n
-  -- the counts of all strings X add up to 2^(2m)
+      (before : List Call) (c : LineCall) (after : List Call) (t k : ℕ) → calls ≡ before ++ (line c ∷ after) →
+      answerOf c ≡ bytesOf (Answer.OneColour t k) → OneColour before t k
+  -- the counts of all strings X of one colour, under one book, add up to 2^(2m)
   pub oneTotal :
-      (b : Circuit) (C : Colour) (t n : BitString → ℕ) →
-      ((X : BitString) → length X ≡ b .m → Answers calls (Answer.OneColour (t X) (n X)) (one C X) b) → tally (b .m) t ≡ 2 ^ (2 * b .m)
+      (b : Circuit) (C : Colour) (t k : BitString → ℕ) →
+      ((X : BitString) → length X ≡ b .m → Answers calls (Answer.OneColour (t X) (k X)) (one C X) b) → tally (b .m) t ≡ 2 ^ (2 * b .m)
   -- 2^m times a count is the sum of the readout counts of either unread colour D over the strings Y of the third, the start being all zeros
   pub oneByReadouts :
-      (m : ℕ) (gates : List Gate) (C D : Colour) (X : BitString) (t n : ℕ) (u k : BitString → ℕ) → sameColour C D ≡ false →
-      Answers calls (Answer.OneColour t n) (one C X) (record { m = m; gates = gates; start = allZeros m }) →
+      (m : ℕ) (gates : List Gate) (C D : Colour) (X : BitString) (t k : ℕ) (u n : BitString → ℕ) → sameColour C D ≡ false →
+      Answers calls (Answer.OneColour t k) (one C X) (record { m = m; gates = gates; start = allZeros m }) →
       ((Y : BitString) → length Y ≡ m →
-      Answers calls (Answer.Readout (u Y) (k Y)) (part D (first D (join C X Y Y)) (second D (join C X Y Y)))
+      Answers calls (Answer.Readout (u Y) (n Y)) (part D (first D (join C X Y Y)) (second D (join C X Y Y)))
       (record { m = m; gates = gates; start = allZeros m })) →
       2 ^ m * t ≡ tally m u

@@ -22,6 +22,7 @@ use Rattle.circuit.specs.Colours.{the, first, second, join, colours}
 use Rattle.circuit.specs.Sum.{Basis}
 use Rattle.circuit.specs.Polynomial.{Polynomial, polynomial}
 use Rattle.circuit.proofs.Colours.{first-other}
+use Rattle.circuit.proofs.Three.{first-join, second-join}
 use Rattle.tables.specs.Packing.{strings, withOutput, tableOf, Tabled, OneTabled}
 use Rattle.slices.specs.Totals.{withStart, areSlices, moderate, moderateCount, amplitudeAfter, amplitudeOver, readoutAfter, readoutOver}
 use Rattle.slices.specs.OneColour.{oneAfter, oneOver}
@@ -122,18 +123,19 @@ module _ (c : Circuit) (C : Colour) (s : Basis) (sound : SoundCircuit c) (long :
         within
         is
 
+-- The start added to a string, colour by colour.
+pub start-joined : (C : Colour) (t : Basis) (z x y : BitString) → withStart t (join C z x y) ≡ join C (z ⊞ the C t) (x ⊞ first C t) (y ⊞ second C t)
+unfolding withStart join the first second
+start-joined Red t z x y = refl
+start-joined Blue t z x y = refl
+start-joined Green t z x y = refl
+
 -- Beside the unread colour stand X and Y with the start's ones.
 first-out : (C : Colour) (z x y : BitString) (t : Basis) → first C (withStart t (join C z x y)) ≡ x ⊞ first C t
-unfolding first withStart join
-first-out Red z x y t = refl
-first-out Blue z x y t = refl
-first-out Green z x y t = refl
+first-out C z x y t = ap (first C) (start-joined C t z x y) ∙ first-join C _ _ _
 
 second-out : (C : Colour) (z x y : BitString) (t : Basis) → second C (withStart t (join C z x y)) ≡ y ⊞ second C t
-unfolding second withStart join
-second-out Red z x y t = refl
-second-out Blue z x y t = refl
-second-out Green z x y t = refl
+second-out C z x y t = ap (second C) (start-joined C t z x y) ∙ second-join C _ _ _
 
 -- The string of the one colour that is read is as long as the output string that it stands in.
 pub string-long : (C : Colour) (m : ℕ) (x : BitString) → Long m (output m (one C x)) → length x ≡ m
