@@ -1,8 +1,8 @@
 -- What it means that a circuit of m positions has a gate.
-use mathlib.Core.Path.{_≡_, ap}
+use mathlib.Core.Path.{_≡_, refl, ap, sym, _∙_}
 use mathlib.Core.Logic.{_≢_}
-use mathlib.Core.Bool.{Bool, true, false, false≢true, not, _&&_}
-use mathlib.Core.List.{List, [], _∷_}
+use mathlib.Core.Bool.{Bool, true, false, false≢true, not, _&&_, and-assoc}
+use mathlib.Core.List.{List, [], _∷_, _++_}
 use Prim.Native.Nat.{ℕ, _≤_}
 use lib.Dec.{eqb, leb}
 use borrow.Author.Tests.{eq-eqb, leb-true}
@@ -73,3 +73,9 @@ cz-positions m p q h = let v = valid-of m (Cz p q) h in (v .0 .1, v .1 .1)
 
 pub cnot-positions : (m : ℕ) (C : Colour) (c t : ℕ) → isGate m (Cnot C c t) ≡ true → (c ≤ m) × (t ≤ m)
 cnot-positions m C c t h = let v = valid-of m (Cnot C c t) h in (v .0 .1, v .1 .1)
+
+-- A circuit has the gates of two lists joined exactly if it has those of both.
+pub gates-append : (m : ℕ) (gs hs : List Gate) → areGates m (gs ++ hs) ≡ areGates m gs && areGates m hs
+unfolding areGates
+gates-append m [] hs = refl
+gates-append m (g ∷ gs) hs = ap (λ w. isGate m g && w) (gates-append m gs hs) ∙ sym (and-assoc (isGate m g) (areGates m gs) (areGates m hs))

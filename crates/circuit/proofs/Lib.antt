@@ -7,3 +7,5 @@ pub mod SignedSum
 pub mod Undo
 pub mod Colours
 pub mod PolynomialTerms
+pub mod Spots
+pub mod Layers

@@ -43,10 +43,15 @@ valid-applied-twice m (Cnot C c t) f v = fun-ext (substituted-twice C c t f (v .
 pub applied-twice : (m : ℕ) (g : Gate) (f : Polynomial) → isGate m g ≡ true → applied g (applied g f) ≡ f
 applied-twice m g f v = valid-applied-twice m g f (valid-of m g v)
 
+-- Gates appended are applied after the others.
+pub applied-all-append : (gs hs : List Gate) (f : Polynomial) → appliedAll (gs ++ hs) f ≡ appliedAll hs (appliedAll gs f)
+unfolding appliedAll
+applied-all-append [] hs f = refl
+applied-all-append (g ∷ gs) hs f = applied-all-append gs hs (applied g f)
+
 pub applied-append : (gs : List Gate) (g : Gate) (f : Polynomial) → appliedAll (gs ++ (g ∷ [])) f ≡ applied g (appliedAll gs f)
 unfolding appliedAll
-applied-append [] g f = refl
-applied-append (h ∷ gs) g f = applied-append gs g (applied h f)
+applied-append gs g f = applied-all-append gs (g ∷ []) f
 
 -- Taking back the last gate is applying it again.
 pub taken-back : (m : ℕ) (gs : List Gate) (g : Gate) → isGate m g ≡ true → applied g (polynomial (gs ++ (g ∷ []))) ≡ polynomial gs

@@ -1,6 +1,6 @@
 -- Laws of sums and products of bits.
 use mathlib.Core.Path.{_≡_, refl, sym, _∙_, ap}
-use mathlib.Core.Bool.{Bool, true, false, not, _&&_, false≢true, and-comm, and-assoc}
+use mathlib.Core.Bool.{Bool, true, false, not, _&&_, _||_, false≢true, true≢false, and-comm, and-assoc, or-comm, or-assoc}
 use lib.IntN.{_*ℤ_, negℤ}
 use Rattle.gf2.specs.Strings.{_⊕_}
 use Rattle.gf2.specs.Sums.{sgn}
@@ -43,9 +43,18 @@ and-left-comm x y z = sym (and-assoc x y z) ∙ ap (λ w. w && z) (and-comm x y)
 
 pub ruleset and-ac = (and-assoc, and-comm, and-left-comm)
 
+pub or-left-comm : (x y z : Bool) → x || (y || z) ≡ y || (x || z)
+or-left-comm x y z = sym (or-assoc x y z) ∙ ap (λ w. w || z) (or-comm x y) ∙ or-assoc y x z
+
+pub ruleset or-ac = (or-assoc, or-comm, or-left-comm)
+
 pub and-both : (a b : Bool) → a && b ≡ true → (a ≡ true) × (b ≡ true)
 and-both true b h = (refl, h)
 and-both false b h = absurd (false≢true h)
+
+pub or-none : (a b : Bool) → a || b ≡ false → (a ≡ false) × (b ≡ false)
+or-none true b h = absurd (true≢false h)
+or-none false b h = (refl, h)
 
 pub and-⊕ : (a b c : Bool) → (a ⊕ b) && c ≡ (a && c) ⊕ (b && c)
 unfolding _⊕_

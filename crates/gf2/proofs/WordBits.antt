@@ -1,12 +1,12 @@
 -- Bits of words: tested, turned over, and of a word made from its bits.
 use mathlib.Core.Path.{_≡_, refl, sym, _∙_, ap, ap₂}
-use mathlib.Core.Bool.{Bool, true, false, cond, _&&_, and-false, and-true}
+use mathlib.Core.Bool.{Bool, true, false, cond, _&&_, _||_, and-false, and-true}
 use Prim.Native.Nat.{ℕ, zero, suc, _+_, _*_, _-_, _/_, _%_, _^_, _≤_, _<_}
 use native.Mathlib.Nat.{add-comm, add-zero, div-div-eq-div-mul, div-eq-of-lt, div-lt-iff-lt-mul, div-one, mod-lt, mul-div-mul-left, one-mul, pow-succ', zero-div, zero-mul}
 use native.Mathlib.Numerals.{add-one}
 use native.Mathlib.Omega.{arith}
 use lib.Dec.{eqb, ltb, eqb·zero-suc, eqb·suc-zero, eqb·suc-suc}
-use lib.Bits.{bitAnd, bitXor, and-shr, xor-shr, xor-shifted, xor-comm, xor-zero-r, xor-lt}
+use lib.Bits.{bitAnd, bitOr, bitXor, and-shr, or-shr, xor-shr, xor-shifted, xor-comm, xor-zero-r, xor-lt}
 use lib.Arith.{lt-one}
 use lib.Pow.{pow-pos, pow-lt, pow-mono, split, field, mod-mod-pow, shl-exact}
 use borrow.Author.Tests.{eqb-true, eqb-false, ltb-true, ltb-false, lt-ltb, le-ltb}
@@ -14,7 +14,7 @@ use Rattle.gf2.specs.Strings.{_⊕_}
 use Rattle.gf2.specs.Digits.{bitOf, odd}
 use Rattle.gf2.specs.Words.{bitAt, wordOf}
 use Rattle.gf2.proofs.Bits.{⊕-false, false-⊕}
-use Rattle.gf2.proofs.Digits.{odd-xor, odd-and}
+use Rattle.gf2.proofs.Digits.{odd-xor, odd-and, odd-or}
 
 -- A word has no bit from its width on.
 pub bitAt-past : (n w k : ℕ) → w < 2 ^ n → n ≤ k → bitAt w k ≡ false
@@ -41,6 +41,10 @@ bitAt-xor a b k = ap odd (xor-shr a b k) ∙ odd-xor (a / 2 ^ k) (b / 2 ^ k)
 pub bitAt-and : (a b k : ℕ) → bitAt (bitAnd a b) k ≡ bitAt a k && bitAt b k
 unfolding bitAt
 bitAt-and a b k = ap odd (and-shr a b k) ∙ odd-and (a / 2 ^ k) (b / 2 ^ k)
+
+pub bitAt-or : (a b k : ℕ) → bitAt (bitOr a b) k ≡ bitAt a k || bitAt b k
+unfolding bitAt
+bitAt-or a b k = ap odd (or-shr a b k) ∙ odd-or (a / 2 ^ k) (b / 2 ^ k)
 
 pub bitAt-half : (w k : ℕ) → bitAt w (suc k) ≡ bitAt (w / 2) k
 unfolding bitAt

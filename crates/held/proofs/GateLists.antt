@@ -14,7 +14,7 @@ use Rattle.circuit.specs.declared.Gate.the-variants as Gate
 use Rattle.circuit.specs.Colours.{sameColour}
 use Rattle.circuit.specs.Sum.{isPosition, isGate, areGates}
 use Rattle.circuit.proofs.PolynomialTerms.{position-true}
-use Rattle.circuit.proofs.Gates.{is-position}
+use Rattle.circuit.proofs.Gates.{is-position, gates-append}
 
 -- A gate for the places behind a list's end.
 abbrev pub noGate : Gate
@@ -29,8 +29,7 @@ gate-at m (g ∷ gs) (suc i) v k = gate-at m gs i (and-both (isGate m g) (areGat
 -- One gate among others.
 pub gate-among : (m : ℕ) (gs : List Gate) (g : Gate) (hs : List Gate) → areGates m (gs ++ (g ∷ hs)) ≡ true → isGate m g ≡ true
 unfolding areGates
-gate-among m [] g hs v = and-both (isGate m g) (areGates m hs) v .0
-gate-among m (x ∷ gs) g hs v = gate-among m gs g hs (and-both (isGate m x) (areGates m (gs ++ (g ∷ hs))) v .1)
+gate-among m gs g hs v = and-both (isGate m g) _ (and-both (areGates m gs) _ (rw (gates-append m gs (g ∷ hs)) at v) .1) .0
 
 -- The first i + 1 gates are the first i with one more behind them.
 pub first-gates : (gs : List Gate) (i : ℕ) → i < length gs → take (i + 1) gs ≡ take i gs ++ (getD gs i noGate ∷ [])
@@ -49,11 +48,7 @@ both true b h k = k
 both false b h k = h
 
 pub gates-added : (m : ℕ) (gs hs : List Gate) → areGates m gs ≡ true → areGates m hs ≡ true → areGates m (gs ++ hs) ≡ true
-unfolding areGates
-gates-added m [] hs g h = h
-gates-added m (x ∷ gs) hs g h =
-    both (isGate m x) (areGates m (gs ++ hs)) (and-both (isGate m x) (areGates m gs) g .0)
-    (gates-added m gs hs (and-both (isGate m x) (areGates m gs) g .1) h)
+gates-added m gs hs g h = rw (gates-append m gs hs, g) h
 
 pub gates-left : (m n : ℕ) (gs : List Gate) → areGates m gs ≡ true → areGates m (take n gs) ≡ true
 unfolding areGates
