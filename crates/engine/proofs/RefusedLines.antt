@@ -56,12 +56,12 @@ module _ (e : Engine) (h line : List ℕ) where
       go false true some = (refl, refl, refl)
       go false false some = answering-kept some
 
--- Refusals are numbered up to 13 (Manual 7.1); 0 is none.
-pub refusal-numbered : (e : Engine) (h line : List ℕ) (room : ℕ) → response e h line room .refusal ≤ 13
+-- Refusals are numbered up to 14 (Manual 7.1); 0 is none.
+pub refusal-numbered : (e : Engine) (h line : List ℕ) (room : ℕ) → response e h line room .refusal ≤ 14
 unfolding response skipped tooShort answering
 refusal-numbered e h line room = go (eqb (length line) 0) (ltb room 64)
   where
-    go : (p q : Bool) → cond p (skipped e h) (cond q (tooShort e h) (answering e h line)) .refusal ≤ 13
+    go : (p q : Bool) → cond p (skipped e h) (cond q (tooShort e h) (answering e h line)) .refusal ≤ 14
     go true q = omega arith
     go false true = omega arith
     go false false = refusal-most (e .circuit) (e .opened) (length h) line

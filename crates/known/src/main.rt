@@ -108,9 +108,15 @@ fn line_edges(state: State, history: &mut [u32]) -> State {
     ask_long(taken, history, b"(circuit 1..1) of 1,025 bytes", 1024)
 }
 
+// The same number in three colours is no clash. 48 gates show only that 9 is not given: they touch a position twice (Manual 5.5).
 fn layer_edges(state: State, history: &mut [u32]) -> State {
-    let taken = ask_layer(state, history, b"(layer ..) of 48 gates", 48);
-    ask_layer(taken, history, b"(layer ..) of 49 gates", 49)
+    let fired = ask_all(
+        state,
+        history,
+        b"(layer (cnot r 1 2) (cnot b 1 2) (cnot g 1 2))\n(layer (ccz 1 1 1) (cz (r 2) (b 1)))\n",
+    );
+    let refused = ask_layer(fired, history, b"(layer ..) of 48 gates", 48);
+    ask_layer(refused, history, b"(layer ..) of 49 gates", 49)
 }
 
 fn buffer_edges(state: State, history: &mut [u32]) -> State {

@@ -1,8 +1,8 @@
--- Refusals one after the other, classes by their numbers, and a line of one gate.
+-- Refusals one after the other, and classes by their numbers.
 use Prim.Native.Nat.{ℕ, zero, suc}
 use native.Mathlib.Omega.{arith}
 use mathlib.Core.Path.{_≡_, refl, ap, sym, _∙_}
-use mathlib.Core.Bool.{Bool, true, false, not, cond, _&&_, and-true, or-false}
+use mathlib.Core.Bool.{Bool, true, false, not, cond, _&&_}
 use mathlib.Core.List.{List, [], _∷_}
 use mathlib.Core.Logic.{inl, inr}
 use denote.Enum.Declared.{tagOf}
@@ -15,13 +15,29 @@ use Rattle.forms.specs.declared.Class.{Class}
 use Rattle.forms.specs.declared.Class.the-variants.{Creates, Builds, TakesBack, Starts, Opens, Steps, Drops, Lists}
 use Rattle.forms.proofs.Class.{the-type as class-type}
 use Rattle.forms.specs.Typed.{Row}
-use Rattle.refusals.specs.Refusals.{orElse, refusedIf, classNumber, within, inRange, onItself, allInRange, anyOnItself, outOfRange, operandRefusal}
+use Rattle.refusals.specs.Refusals.{orElse, refusedIf, classNumber, within, onItself, outOfRange, operandRefusal}
 
 -- A refusal that was found is the answer, whatever comes after it.
 pub found-first : (a b : ℕ) → (a ≡ 0 → ⊥) → a ≡ orElse a b
 unfolding orElse
 found-first zero b h = absurd (h refl)
 found-first (suc a) b h = refl
+
+-- 9 by a number or by gates, and then what follows: the same tried in turn.
+pub tried-in-turn : (number inside : Bool) (a b c : ℕ) → orElse (refusedIf (not (number && inside)) 9) (orElse a (orElse b c)) ≡
+    orElse (refusedIf (not number) 9) (orElse (orElse (refusedIf (not inside) 9) (orElse a b)) c)
+unfolding orElse refusedIf
+tried-in-turn true true zero b c = refl
+tried-in-turn true true (suc a) b c = refl
+tried-in-turn true false a b c = refl
+tried-in-turn false inside a b c = refl
+
+-- Gates out of range: 9, whatever follows.
+pub nine-found : (number : Bool) (a b c : ℕ) → orElse (refusedIf (not (number && false)) 9) a ≡
+    orElse (refusedIf (not number) 9) (orElse (orElse (refusedIf (not false) 9) b) c)
+unfolding orElse refusedIf
+nine-found true a b c = refl
+nine-found false a b c = refl
 
 -- A form that Operands does not refuse has its number in range.
 pub number-in-range : (m : ℕ) (r : Row) → operandRefusal m r ≡ 0 → within (r .least) (r .most) (r .number) ≡ true
@@ -68,15 +84,6 @@ pub on-classes : (f : ℕ → Bool) (b : Bool) (ks : List ℕ) (c : Class) → a
 on-classes f b ks c a h = on-keys f b ks (tagOf class-type c) a h ∙ ap f (class-number c)
 
 -- ---- gates
-
--- A line of one gate.
-pub one-in-range : (m : ℕ) (g : Gate) → inRange m g ≡ allInRange m (g ∷ [])
-unfolding allInRange
-one-in-range m g = sym (and-true _)
-
-pub one-on-itself : (g : Gate) → onItself g ≡ anyOnItself (g ∷ [])
-unfolding anyOnItself
-one-on-itself g = sym (or-false _)
 
 -- A gate that is no `cnot`, by its number in the enum.
 abbrev allButCnot : List ℕ

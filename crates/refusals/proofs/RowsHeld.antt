@@ -3,7 +3,7 @@
 use Prim.Native.Nat.{ℕ, _≤_, _-_}
 use native.Mathlib.Omega.{arith}
 use mathlib.Core.Path.{_≡_, refl, ap, _∙_}
-use mathlib.Core.Bool.{Bool, true, false, not, _&&_, and-false, or-false}
+use mathlib.Core.Bool.{Bool, true, false, not, _&&_, or-false}
 use mathlib.Core.List.{List, [], _∷_, map}
 use lib.Dec.{leb, ltb}
 use lib.ListN.{length}
@@ -20,10 +20,11 @@ use Rattle.gates.specs.Gates.{heldGate}
 use Rattle.forms.specs.declared.Class.{Class}
 use Rattle.forms.specs.declared.Class.the-variants as Class
 use Rattle.forms.specs.Typed.{Asked, amp, part, one, Typed, circuit, gate, layer, undo, start, opens, step, drop, terms, numbered, bare, building, stringsOf, row}
-use Rattle.forms.specs.Spelling.{Reading, typed, refused}
+use Rattle.forms.specs.Spelling.{Reading, typed, refused, colourTwice, anyColourTwice}
 use Rattle.lines.specs.Readings.{readingOf}
 use Rattle.forms.specs.Held.{gateForm, held, heldReading}
 use Rattle.lines.proofs.LayerLine.{handed-on, layer-walked}
+use Rattle.lines.proofs.Readings.{form-read}
 use Rattle.rows.specs.declared.Strings.{Strings}
 use Rattle.rows.specs.declared.Strings.the-variants as Strings
 use Rattle.rows.specs.declared.Gates.{Gates}
@@ -31,8 +32,9 @@ use Rattle.rows.specs.declared.Gates.the-variants as Gates
 use Rattle.rows.specs.declared.HeldRow.{HeldRow}
 use Rattle.rows.specs.declared.FormRow.the-variants as FormRow
 use Rattle.rows.specs.Rows.{heldRow}
-use Rattle.refusals.specs.HeldRows.{notLong, wrongLength, metGates, countOf, Tells}
-use Rattle.refusals.specs.Refusals.{orElse, refusedIf, isClass, within, inRange, allInRange, outOfRange, anyOnItself, anyNotLong, operandRefusal, places, undoesMore, historyRefusal}
+use Rattle.refusals.proofs.RefusalLaws.{tried-in-turn, nine-found}
+use Rattle.refusals.specs.HeldRows.{notLong, wrongLength, metGates, gatesRefusal, countOf, Tells}
+use Rattle.refusals.specs.Refusals.{orElse, refusedIf, isClass, within, inRange, allInRange, outOfRange, anyNotLong, operandRefusal, places, undoesMore, historyRefusal}
 
 -- ---- capped numbers
 
@@ -100,7 +102,7 @@ module _ (m : ℕ) (small : m ≤ 16) where
 
 -- ---- the held row of each form
 
-module _ (l : List ℕ) (t : Typed) where
+module _ (l : List ℕ) (t : Typed) (colours : anyColourTwice (row t .gates) ≡ false) where
   number-told : (c : Class) (n low high : ℕ) → low ≤ 65536 → high ≤ 65536 → row t ≡ numbered c n low high
       → Tells l t (record { class = c; number = capped n; least = low; most = high; strings = Strings.None; gates = Gates.None })
   unfolding wrongLength anyNotLong metGates countOf
@@ -112,6 +114,7 @@ module _ (l : List ℕ) (t : Typed) where
         lengths-are = λ m. rw e;
         gates-are = rw e;
         count-is = rw e;
+        colours-differ = colours;
       }
 
   strings-told : (c : Class) (s : Strings) (ss : List BitString) (qs : List Asked) → row t ≡ bare c ss qs → ((m : ℕ) → wrongLength m s ≡ anyNotLong m ss)
@@ -125,6 +128,7 @@ module _ (l : List ℕ) (t : Typed) where
         lengths-are = λ m. rw e (same m);
         gates-are = rw e;
         count-is = rw e;
+        colours-differ = colours;
       }
 
   gates-told : (g : Gates) (gs : List Gate) → row t ≡ building gs → metGates g l ≡ map heldGate gs → countOf g ≡ length gs
@@ -138,6 +142,7 @@ module _ (l : List ℕ) (t : Typed) where
         lengths-are = λ m. rw e;
         gates-are = rw e met;
         count-is = rw e count;
+        colours-differ = colours;
       }
 
 three-alike : (m : ℕ) (x y z : BitString) → wrongLength m (Strings.Three (heldBits x) (heldBits y) (heldBits z)) ≡ anyNotLong m (x ∷ y ∷ z ∷ [])
@@ -155,20 +160,23 @@ one-alike m x = rw or-false
 -- The held row of a line that is read as a form tells of that form.
 pub row-told : (l : List ℕ) (t : Typed) → readingOf l ≡ typed t → (r : HeldRow) × (heldRow (held t) ≡ FormRow.Row r) × Tells l t r
 unfolding heldRow held gateForm heldGate heldReading row stringsOf metGates countOf wrongLength anyNotLong
-row-told l (circuit m) h = (_, refl, number-told l (circuit m) Class.Creates m 1 16 (omega arith) (omega arith) refl)
-row-told l (gate (Ccz i j k)) h = (_, refl, gates-told l (gate (Ccz i j k)) _ _ refl refl refl)
-row-told l (gate (Cz p q)) h = (_, refl, gates-told l (gate (Cz p q)) _ _ refl refl refl)
-row-told l (gate (Cnot C c t)) h = (_, refl, gates-told l (gate (Cnot C c t)) _ _ refl refl refl)
-row-told l (layer gs) h =
-    (_, refl, gates-told l (layer gs) (Gates.Layer (length gs)) gs refl (layer-walked l (length gs) (ap heldReading h) ∙ handed-on l gs h) refl)
-row-told l (undo k) h = (_, refl, number-told l (undo k) Class.TakesBack k 1 4096 (omega arith) (omega arith) refl)
-row-told l (start r b g) h = (_, refl, strings-told l (start r b g) Class.Starts _ _ _ refl (λ m. three-alike m r b g))
-row-told l (opens (amp C r b g)) h = (_, refl, strings-told l (opens (amp C r b g)) Class.Opens _ _ _ refl (λ m. three-alike m r b g))
-row-told l (opens (part C x y)) h = (_, refl, strings-told l (opens (part C x y)) Class.Opens _ _ _ refl (λ m. two-alike m x y))
-row-told l (opens (one C x)) h = (_, refl, strings-told l (opens (one C x)) Class.Opens _ _ _ refl (λ m. one-alike m x))
-row-told l (step k) h = (_, refl, number-told l (step k) Class.Steps k 1 65536 (omega arith) (omega arith) refl)
-row-told l drop h = (_, refl, strings-told l drop Class.Drops Strings.None [] [] refl (λ m. refl))
-row-told l terms h = (_, refl, strings-told l terms Class.Lists Strings.None [] [] refl (λ m. refl))
+row-told l t h = go t h (form-read l t h .colours)
+  where
+    go : (t : Typed) → readingOf l ≡ typed t → anyColourTwice (row t .gates) ≡ false → (r : HeldRow) × (heldRow (held t) ≡ FormRow.Row r) × Tells l t r
+    go (circuit m) h c = (_, refl, number-told l (circuit m) c Class.Creates m 1 16 (omega arith) (omega arith) refl)
+    go (gate (Ccz i j k)) h c = (_, refl, gates-told l (gate (Ccz i j k)) c _ _ refl refl refl)
+    go (gate (Cz p q)) h c = (_, refl, gates-told l (gate (Cz p q)) c _ _ refl refl refl)
+    go (gate (Cnot C i j)) h c = (_, refl, gates-told l (gate (Cnot C i j)) c _ _ refl refl refl)
+    go (layer gs) h c =
+        (_, refl, gates-told l (layer gs) c (Gates.Layer (length gs)) gs refl (layer-walked l (length gs) (ap heldReading h) ∙ handed-on l gs h) refl)
+    go (undo k) h c = (_, refl, number-told l (undo k) c Class.TakesBack k 1 4096 (omega arith) (omega arith) refl)
+    go (start r b g) h c = (_, refl, strings-told l (start r b g) c Class.Starts _ _ _ refl (λ m. three-alike m r b g))
+    go (opens (amp C r b g)) h c = (_, refl, strings-told l (opens (amp C r b g)) c Class.Opens _ _ _ refl (λ m. three-alike m r b g))
+    go (opens (part C x y)) h c = (_, refl, strings-told l (opens (part C x y)) c Class.Opens _ _ _ refl (λ m. two-alike m x y))
+    go (opens (one C x)) h c = (_, refl, strings-told l (opens (one C x)) c Class.Opens _ _ _ refl (λ m. one-alike m x))
+    go (step k) h c = (_, refl, number-told l (step k) c Class.Steps k 1 65536 (omega arith) (omega arith) refl)
+    go drop h c = (_, refl, strings-told l drop c Class.Drops Strings.None [] [] refl (λ m. refl))
+    go terms h c = (_, refl, strings-told l terms c Class.Lists Strings.None [] [] refl (λ m. refl))
 
 -- ---- what the code asks of a held row
 
@@ -188,22 +196,32 @@ unfolding heldReading heldRow
 row-refused l (typed t) h e p = let told = row-told l t h in never (cc)
 row-refused l (refused n) h e p = let same : n ≡ e = cc in ap refused same
 
+held-colours : (gs : List Gate) → anyColourTwice (map heldGate gs) ≡ anyColourTwice gs
+unfolding anyColourTwice colourTwice heldGate
+held-colours [] = refl
+held-colours (Ccz i j k ∷ gs) = held-colours gs
+held-colours (Cz p q ∷ gs) = rw (held-colours gs)
+held-colours (Cnot C c t ∷ gs) = held-colours gs
+
 module _ (l : List ℕ) (t : Typed) (r : HeldRow) (told : Tells l t r) where
+  -- No `cz` that the code meets names one colour twice.
+  pub met-colours : anyColourTwice (metGates (r .gates) l) ≡ false
+  met-colours = ap anyColourTwice (told .gates-are) ∙ held-colours (row t .gates) ∙ told .colours-differ
+
   -- The place Operands by the held row: the gates that the code meets are in range exactly if those that were typed are, and then they are the same.
   pub operands-told : (m : ℕ) → m ≤ 16 → operandRefusal m (row t) ≡
-      orElse (refusedIf (not (within (r .least) (r .most) (r .number) && allInRange m (metGates (r .gates) l))) 9)
-      (orElse (refusedIf (anyOnItself (metGates (r .gates) l)) 10) (refusedIf (wrongLength m (r .strings)) 11))
-  unfolding operandRefusal outOfRange orElse refusedIf
-  operands-told m small = rw (told .range-is, inside, told .lengths-are m) (go (allInRange m (row t .gates)) refl)
+      orElse (refusedIf (not (within (r .least) (r .most) (r .number))) 9)
+      (orElse (gatesRefusal m (metGates (r .gates) l)) (refusedIf (wrongLength m (r .strings)) 11))
+  unfolding operandRefusal outOfRange gatesRefusal
+  operands-told m small = rw (told .range-is, told .lengths-are m) (go (allInRange m (row t .gates)) refl)
     where
-      inside : allInRange m (metGates (r .gates) l) ≡ allInRange m (row t .gates)
-      inside = ap (allInRange m) (told .gates-are) ∙ held-in-range m small (row t .gates)
+      number : Bool
+      number = within (row t .least) (row t .most) (row t .number)
 
       go : (i : Bool) → allInRange m (row t .gates) ≡ i → operandRefusal m (row t) ≡
-          orElse (refusedIf (not (within (row t .least) (row t .most) (row t .number) && allInRange m (row t .gates))) 9)
-          (orElse (refusedIf (anyOnItself (metGates (r .gates) l)) 10) (refusedIf (anyNotLong m (row t .strings)) 11))
-      go true i = rw (told .gates-are, held-inside m small (row t .gates) i)
-      go false i = rw (i, and-false)
+          orElse (refusedIf (not number) 9) (orElse (gatesRefusal m (metGates (r .gates) l)) (refusedIf (anyNotLong m (row t .strings)) 11))
+      go true i = rw (told .gates-are, held-inside m small (row t .gates) i) (tried-in-turn number _ _ _ _)
+      go false i = rw (told .gates-are, held-in-range m small (row t .gates), i) (nine-found number _ _ _)
 
   -- The place History by the held row: a number in its range is the held one.
   pub history-told : (room count : ℕ) → within (row t .least) (row t .most) (row t .number) ≡ true → historyRefusal room count (row t) ≡

@@ -1,5 +1,5 @@
 -- Refusals (Manual 7.1, 7.5 to 7.7): after Line and Form the places Moment, Operands and History, by the row of the form that was typed.
--- Each gives the refusal's number, 0 for none; a place is tried over the whole line before the next, the lowest number in a place wins.
+-- Each gives the refusal's number, 0 for none; a place is tried over the whole line before the next, and in a place the numbers in their order.
 use mathlib.Core.Bool.{Bool, true, false, not, cond, _&&_, _||_}
 use mathlib.Core.List.{List, [], _∷_}
 use Prim.Native.Nat.{ℕ, zero, suc, _-_, min}
@@ -9,6 +9,7 @@ use Rattle.gf2.specs.Strings.{BitString}
 use Rattle.circuit.specs.declared.Gate.{Gate}
 use Rattle.circuit.specs.declared.Gate.the-variants as Gate
 use Rattle.circuit.specs.Sum.{isPosition}
+use Rattle.circuit.specs.Layers.{layerTouches, usedTwice}
 use Rattle.forms.specs.declared.Class.{Class}
 use Rattle.forms.specs.declared.Class.the-variants.{Creates, Builds, TakesBack, Starts, Opens, Steps, Drops, Lists}
 use Rattle.forms.specs.Typed.{Row, row}
@@ -80,15 +81,21 @@ unfoldable pub anyOnItself : List Gate → Bool
 anyOnItself [] = false
 anyOnItself (g ∷ gs) = onItself g || anyOnItself gs
 
+-- 14: a layer touches a position twice. A gate by itself touches none twice, once 5 and 10 are past: `single-never-14`.
+unfoldable pub touchedTwice : List Gate → Bool
+touchedTwice gs = usedTwice (layerTouches gs)
+
 -- 11: a bit string does not have m digits.
 unfoldable pub anyNotLong : ℕ → List BitString → Bool
 anyNotLong m [] = false
 anyNotLong m (s ∷ ss) = not (eqb (length s) m) || anyNotLong m ss
 
--- Each number is tried over the whole line before the next.
+-- Each number is tried over the whole line before the next, in the order 9, 10, 14, 11.
 unfoldable pub operandRefusal : ℕ → Row → ℕ
 operandRefusal m r =
-    orElse (refusedIf (outOfRange m r) 9) (orElse (refusedIf (anyOnItself (r .gates)) 10) (refusedIf (anyNotLong m (r .strings)) 11))
+    orElse (refusedIf (outOfRange m r) 9)
+    (orElse (refusedIf (anyOnItself (r .gates)) 10)
+    (orElse (refusedIf (touchedTwice (r .gates)) 14) (refusedIf (anyNotLong m (r .strings)) 11)))
 
 -- ---- History
 

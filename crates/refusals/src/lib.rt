@@ -7,6 +7,7 @@ ghost use Rattle.refusals.specs.Refusals.{refusalBy};
 use forms::Form;
 
 mod places;
+mod touched;
 
 // What is held of a line's form, and the number of the line's refusal, 0 for none.
 pub struct Tried {

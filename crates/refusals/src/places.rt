@@ -1,5 +1,5 @@
 // Where a line is turned back: the places Moment, Operands and History. Each function gives the number of the refusal, 0 for none.
-ghost use mathlib.Core.Bool.{true, not, _&&_, _||_};
+ghost use mathlib.Core.Bool.{true, false, not, _&&_, _||_};
 ghost use mathlib.Core.Path.{_≡_};
 ghost use Prim.Native.Nat.{ℕ, _-_, min, _≤_};
 ghost use lib.Dec.{ltb};
@@ -8,10 +8,13 @@ ghost use Rattle.circuit.specs.Sum.{isPosition};
 ghost use Rattle.gates.specs.Gates.{gatesMet};
 ghost use Rattle.forms.specs.declared.Class.the-variants as Class;
 ghost use Rattle.forms.specs.Held.{heldReading};
+ghost use Rattle.forms.specs.Spelling.{anyColourTwice};
 ghost use Rattle.lines.specs.Readings.{readingOf};
 ghost use Rattle.forms.specs.Typed.{Typed, row as typedRow};
-ghost use Rattle.refusals.specs.HeldRows.{notLong, wrongLength, metGates, countOf, Tells};
-ghost use Rattle.refusals.specs.Refusals.{isClass, works, momentRefusal, inRange, onItself, allInRange, anyOnItself, within, operandRefusal, places, historyRefusal, rowRefusal, refusalBy};
+ghost use Rattle.refusals.specs.HeldRows.{notLong, wrongLength, metGates, gatesRefusal, countOf, Tells};
+ghost use Rattle.refusals.specs.Refusals.{orElse, refusedIf, isClass, works, momentRefusal, inRange, onItself, within, operandRefusal, places, historyRefusal, rowRefusal, refusalBy};
+use crate::touched::Touched;
+use crate::touched::touch_gate;
 use circuit::Gate;
 use forms::Class;
 use forms::Form;
@@ -96,12 +99,6 @@ fn moment(loaded: bool, summing: bool, class: Class) -> u8
     0
 }
 
-// What the operands of a line's gates are like.
-struct Checked {
-    inside: bool,
-    itself: bool,
-}
-
 fn both_positions(m: usize, i: usize, j: usize) -> bool
     ensures { λ r. ⌜ r ≡ isPosition m i && isPosition m j ⌝ }
 {
@@ -128,47 +125,62 @@ fn on_itself(g: Gate) -> bool
     }
 }
 
-fn gate_checked(m: usize, g: Gate) -> Checked
-    ensures { λ r. ⌜ (r .inside ≡ inRange m g) × (r .itself ≡ onItself g) ⌝ }
+// 10 or 14, by what was noted of gates that are all in range.
+fn noted_refusal(itself: bool, twice: bool) -> u8
+    ensures { λ r. ⌜ r ≡ orElse (refusedIf itself 10) (refusedIf twice 14) ⌝ }
 {
-    Checked {
-        inside: in_range(m, g),
-        itself: on_itself(g),
+    if itself {
+        return 10;
     }
+    if twice { 14 } else { 0 }
 }
 
-// Over the gates of a layer, one after the other.
-fn layer_checked(m: usize, line: &[u8], n: usize) -> Checked
-    ensures { λ r. ⌜ (r .inside ≡ allInRange m (gatesMet n (now (line .entry)) 6)) × (r .itself ≡ anyOnItself (gatesMet n (now (line .entry)) 6)) ⌝ }
+// Over the gates of a layer, one after the other. 9 goes before 10 and 14, whatever gates follow.
+fn layer_refusal(m: usize, line: &[u8], n: usize) -> u8
+    requires { ⌜ m ≤ 16 ⌝ }
+    ensures { λ r. ⌜ r ≡ gatesRefusal m (gatesMet n (now (line .entry)) 6) ⌝ }
 {
-    let mut inside = true;
     let mut itself = false;
+    let mut touched = Touched {
+        set: 0,
+        twice: false,
+    };
     let mut at: usize = 6;
     let mut i = 0;
     while i < n {
         let GateAt::Read { gate, next } = gates::layer_gate(line, at) else {
-            return Checked { inside, itself };
+            return noted_refusal(itself, touched.twice);
         };
-        let c = gate_checked(m, gate);
-        inside = inside && c.inside;
-        itself = itself || c.itself;
+        if !in_range(m, gate) {
+            return 9;
+        }
+        itself = itself | on_itself(gate);
+        touched = touch_gate(touched, gate);
         at = next;
         i += 1;
     }
-    Checked { inside, itself }
+    noted_refusal(itself, touched.twice)
+}
+
+// A line of one gate is free of 14 (Manual 7.6).
+fn gate_refusal(m: usize, g: Gate) -> u8
+    ensures { λ r. ⌜ r ≡ orElse (refusedIf (not (inRange m g)) 9) (refusedIf (onItself g) 10) ⌝ }
+{
+    if !in_range(m, g) {
+        return 9;
+    }
+    if on_itself(g) { 10 } else { 0 }
 }
 
 // Over the gates of a line: one, those of a layer, or none.
-fn gates_checked(m: usize, line: &[u8], gates: Gates) -> Checked
-    ensures { λ r. ⌜ (r .inside ≡ allInRange m (metGates gates (now (line .entry)))) × (r .itself ≡ anyOnItself (metGates gates (now (line .entry)))) ⌝ }
+fn gates_refusal(m: usize, line: &[u8], gates: Gates) -> u8
+    requires { ⌜ m ≤ 16 ⌝ }
+    ensures { λ r. ⌜ (anyColourTwice (metGates gates (now (line .entry))) ≡ false → r ≡ gatesRefusal m (metGates gates (now (line .entry)))) ⌝ }
 {
     match gates {
-        Gates::None => Checked {
-            inside: true,
-            itself: false,
-        },
-        Gates::One(gate) => gate_checked(m, gate),
-        Gates::Layer(n) => layer_checked(m, line, n),
+        Gates::None => 0,
+        Gates::One(gate) => gate_refusal(m, gate),
+        Gates::Layer(n) => layer_refusal(m, line, n),
     }
 }
 
@@ -203,16 +215,13 @@ fn operands(m: usize, line: &[u8], row: HeldRow) -> u8
     requires { ⌜ m ≤ 16 ⌝ }
     ensures { λ r. ⌜ ((t : Typed) → Tells (now (line .entry)) t row → r ≡ operandRefusal m (typedRow t)) ⌝ }
 {
-    let gates = row.gates;
-    let checked = gates_checked(m, line, gates);
     if !within(row.least, row.most, row.number) {
         return 9;
     }
-    if !checked.inside {
-        return 9;
-    }
-    if checked.itself {
-        return 10;
+    let gates = row.gates;
+    let of_gates = gates_refusal(m, line, gates);
+    if of_gates != 0 {
+        return of_gates;
     }
     let strings = row.strings;
     if wrong_length(m, strings) {

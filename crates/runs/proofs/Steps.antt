@@ -6,6 +6,7 @@ use mathlib.Core.List.{List, [], _∷_, _++_}
 use Prim.Native.Nat.{ℕ, suc, _+_, _*_, _^_, _≤_, _<_}
 use native.Mathlib.Nat.{zero-add, add-zero, add-assoc}
 use native.Mathlib.Omega.{arith}
+use Rattle.gf2.proofs.Bits.{or-none}
 use Rattle.gf2.proofs.Impossible.{never}
 use Rattle.text.specs.Spelling.{sameBytes, begins}
 use Rattle.forms.specs.declared.Class.the-variants as Class
@@ -19,7 +20,6 @@ use Rattle.answers.specs.Answers.{bytesOf}
 use Rattle.held.specs.Circuit.{Circuit}
 use Rattle.sums.specs.Sums.{OpenSum, Opened, running, isRunning, totalAfter, ended}
 use Rattle.turns.proofs.Views.{View, refuses, creates, adds, takesBack, starts, opensSum, worksOn, finishes, drops, lists}
-use Rattle.turns.proofs.Passing.{or-none}
 use Rattle.engine.proofs.Outcomes.{Outcome, silent, spoken}
 use Rattle.runs.specs.Runs.{LineCall, FetchCall, Call, line, fetch, answerOf, isOk, isLeft, isAccepted, stepsOf, isDropped, stepsIn, dropsIn, Log, logged, IsTotal}
 use Rattle.runs.proofs.Moments.{Moment, done, next}

@@ -1,4 +1,4 @@
--- What the engine answers is modest: refusals are numbered up to 13, sums are within 2^48, a listing has at most 4,864 terms. So every
+-- What the engine answers is modest: refusals are numbered up to 14, sums are within 2^48, a listing has at most 4,864 terms. So every
 -- answer has room in 64 bytes.
 use mathlib.Core.Path.{_≡_, refl, ap, sym, _∙_, subst}
 use mathlib.Core.Bool.{Bool, true, false, cond}
@@ -45,19 +45,19 @@ unfolding refusedIf
 refused-if-most n e true h = h
 refused-if-most n e false h = omega arith
 
--- The number of a refusal is at most 13 (Manual 7.1); 0 is none.
-pub refusal-most : (c : Circuit) (o : Opened) (room : ℕ) (l : List ℕ) → refusalOf c o room (readingOf l) ≤ 13
+-- The number of a refusal is at most 14 (Manual 7.1); 0 is none.
+pub refusal-most : (c : Circuit) (o : Opened) (room : ℕ) (l : List ℕ) → refusalOf c o room (readingOf l) ≤ 14
 unfolding refusalOf refusalBy rowRefusal momentRefusal operandRefusal historyRefusal
 refusal-most c o room l = go (readingOf l) refl
   where
-    go : (r : Reading) → readingOf l ≡ r → refusalOf c o room r ≤ 13
+    go : (r : Reading) → readingOf l ≡ r → refusalOf c o room r ≤ 14
     go (refused n) is = let k = refused-among l n is in omega arith
     go (typed t) is =
-        or-else-most 13 _ _
-        (or-else-most 13 _ _ (refused-if-most 13 6 _ (omega arith)) (or-else-most 13 _ _ (refused-if-most 13 7 _ (omega arith)) (refused-if-most 13 8 _ (omega arith))))
-        (or-else-most 13 _ _
-        (or-else-most 13 _ _ (refused-if-most 13 9 _ (omega arith)) (or-else-most 13 _ _ (refused-if-most 13 10 _ (omega arith)) (refused-if-most 13 11 _ (omega arith))))
-        (or-else-most 13 _ _ (refused-if-most 13 12 _ (omega arith)) (refused-if-most 13 13 _ (omega arith))))
+        or-else-most 14 _ _
+        (or-else-most 14 _ _ (refused-if-most 14 6 _ (omega arith)) (or-else-most 14 _ _ (refused-if-most 14 7 _ (omega arith)) (refused-if-most 14 8 _ (omega arith))))
+        (or-else-most 14 _ _
+        (or-else-most 14 _ _ (refused-if-most 14 9 _ (omega arith)) (or-else-most 14 _ _ (refused-if-most 14 10 _ (omega arith)) (or-else-most 14 _ _ (refused-if-most 14 14 _ (omega arith)) (refused-if-most 14 11 _ (omega arith)))))
+        (or-else-most 14 _ _ (refused-if-most 14 12 _ (omega arith)) (refused-if-most 14 13 _ (omega arith))))
 
 -- ---- a listing's length
 
@@ -150,7 +150,7 @@ module _ (c : Circuit) (o : Opened) (room : ℕ) (line : List ℕ) (sound : Soun
   unfolding turnOf turnBy
   turn-modest = go (readingOf line) refl
     where
-      by : (t : Typed) (n : ℕ) → n ≤ 13 → Modest (turnBy n c o t .answer)
+      by : (t : Typed) (n : ℕ) → n ≤ 14 → Modest (turnBy n c o t .answer)
       by t zero l = accepted-modest c o t (sound .most) opened
       by t (suc n) l = omega arith
 

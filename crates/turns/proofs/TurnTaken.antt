@@ -45,7 +45,7 @@ use Rattle.stages.specs.Promises.{Done, Does, Builds, TakesBack}
 use Rattle.turns.specs.Promises.{Free, Taken}
 use Rattle.turns.proofs.Passing.{Passes, passes}
 use Rattle.turns.proofs.Views.{Building, single, several, one-long, two-long, three-long}
-use Rattle.turns.proofs.HeldGates.{gates-by-tests}
+use Rattle.refusals.proofs.GateTests.{gates-by-tests}
 
 building-gates : {t : Typed} {gs : List Gate} → Building t gs → row t .gates ≡ gs
 unfolding row

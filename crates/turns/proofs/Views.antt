@@ -8,7 +8,7 @@ use lib.Dec.{eqb, leb, ltb}
 use lib.ListN.{length}
 use borrow.Author.Tests.{ltb-true, ltb-false, leb-true, eqb-true, not-false}
 use Rattle.gf2.specs.Strings.{BitString, zeros}
-use Rattle.gf2.proofs.Bits.{and-both}
+use Rattle.gf2.proofs.Bits.{and-both, or-none}
 use Rattle.gf2.proofs.BitNumbers.{length-zeros}
 use Rattle.circuit.specs.declared.Colour.{Colour}
 use Rattle.circuit.specs.declared.Colour.the-variants.{Red, Blue, Green}
@@ -24,12 +24,12 @@ use Rattle.lines.proofs.Readings.{form-read, refused-among}
 use Rattle.answers.specs.declared.Answer.{Answer}
 use Rattle.answers.specs.declared.Answer.the-variants as Answer
 use Rattle.refusals.specs.Refusals.{classNumber, isClass, works, within, places, anyNotLong, refusalBy}
+use Rattle.refusals.proofs.GateTests.{gates-by-tests}
 use Rattle.sums.specs.Tables.{output}
 use Rattle.sums.specs.Sums.{OpenSum, Opened, closed, running, isRunning, totalAfter, ended, opening, stepped, stepAnswer}
 use Rattle.stages.specs.Stages.{Turn, accepted}
 use Rattle.turns.specs.Turns.{refusalOf, turnBy, turnOf}
-use Rattle.turns.proofs.Passing.{or-none, Passes, passes}
-use Rattle.turns.proofs.HeldGates.{gates-by-tests}
+use Rattle.turns.proofs.Passing.{Passes, passes}
 
 -- The forms of gates, and their gates.
 pub data Building : Typed → List Gate → Type 0 where
