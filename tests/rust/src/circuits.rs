@@ -1,6 +1,6 @@
 //! Circuits that the examples, the checks and the benchmark are made of.
 
-use crate::gates::{COLOURS, Colour, Gate, cz};
+use crate::gates::{COLOURS, Colour, Gate, cnot, cz};
 use crate::random::Random;
 
 /// Position p of every colour as one block (001, section I.B): a gate list for each block, as one layer.
@@ -20,18 +20,13 @@ pub fn block_ccz(block: usize) -> Gate {
 /// controls, their neighbours the targets.
 fn along(direction: usize, m: usize) -> Vec<Gate> {
     let controls = (0..m).filter(|vertex| vertex.count_ones() % 2 == 0);
-    let cnot = |vertex: usize| {
-        COLOURS.map(|colour| Gate::Cnot {
-            colour,
-            control: vertex + 1,
-            target: (vertex ^ 1 << direction) + 1,
-        })
-    };
-    controls.flat_map(cnot).collect()
+    let beside = |vertex: usize| vertex ^ 1 << direction;
+    let cnots = |vertex: usize| COLOURS.map(|colour| cnot(colour, vertex + 1, beside(vertex) + 1));
+    controls.flat_map(cnots).collect()
 }
 
 /// The circuit of source document 001 on 2^k blocks of three: k + 1 stages of CCZ and CZ inside the blocks, a CNOT layer along one
-/// direction of the cube between two of them. Document 01 has no Z gate. No layer uses a position twice.
+/// direction of the cube between two of them. Document 01 has no Z gate.
 pub fn hypercube(k: usize) -> Vec<Vec<Gate>> {
     let m = 1 << k;
     let mut layers = Vec::new();
@@ -66,6 +61,23 @@ pub fn full_rank(m: usize, seed: u64) -> Vec<Vec<Gate>> {
     layers
 }
 
+/// A layer that touches every position once, by gates that touch two: each CNOT and each CZ on four blocks. m is a
+/// multiple of 4; at 16 there are 24 gates, and no layer that can be fired has more.
+pub fn every_position(m: usize) -> Vec<Gate> {
+    let [red, blue, green] = COLOURS;
+    let on_four = |p: usize| {
+        [
+            cnot(red, p, p + 1),
+            cz(red, p + 2, blue, p + 2),
+            cnot(blue, p + 1, p),
+            cz(green, p + 2, red, p + 3),
+            cnot(green, p, p + 1),
+            cz(blue, p + 3, green, p + 3),
+        ]
+    };
+    (1..=m).step_by(4).flat_map(on_four).collect()
+}
+
 /// A circuit whose phase polynomial has every term there is, 4,864 of them at m = 16: one product of each kind on
 /// position 1, then every position 1 replaced by the sum of all positions of its colour.
 pub fn every_term(m: usize) -> Vec<Gate> {
@@ -73,15 +85,9 @@ pub fn every_term(m: usize) -> Vec<Gate> {
         let [first, second] = colour.others();
         cz(first, 1, second, 1)
     });
-    let added = |colour: Colour| {
-        (2..=m).map(move |control| Gate::Cnot {
-            colour,
-            control,
-            target: 1,
-        })
-    };
+    let added = |control: usize| COLOURS.map(|colour| cnot(colour, control, 1));
     let mut gates = vec![block_ccz(1)];
     gates.extend(products);
-    gates.extend(COLOURS.into_iter().flat_map(added));
+    gates.extend((2..=m).flat_map(added));
     gates
 }

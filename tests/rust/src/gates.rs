@@ -39,6 +39,10 @@ pub struct Spot {
     pub position: usize,
 }
 
+pub fn spot(colour: Colour, position: usize) -> Spot {
+    Spot { colour, position }
+}
+
 impl fmt::Display for Spot {
     fn fmt(&self, f: &mut fmt::Formatter) -> fmt::Result {
         write!(f, "({} {})", self.colour, self.position)
@@ -60,6 +64,42 @@ pub enum Gate {
     },
 }
 
+impl Gate {
+    /// The positions that the gate touches.
+    pub fn spots(&self) -> Vec<Spot> {
+        match *self {
+            Gate::Ccz { red, blue, green } => vec![
+                spot(Colour::Red, red),
+                spot(Colour::Blue, blue),
+                spot(Colour::Green, green),
+            ],
+            Gate::Cz(first, second) => vec![first, second],
+            Gate::Cnot {
+                colour,
+                control,
+                target,
+            } => vec![spot(colour, control), spot(colour, target)],
+        }
+    }
+
+    /// The same gate with other positions, each by the one that it is put in the place of.
+    pub fn moved(&self, to: impl Fn(Spot) -> usize) -> Gate {
+        match *self {
+            Gate::Ccz { red, blue, green } => Gate::Ccz {
+                red: to(spot(Colour::Red, red)),
+                blue: to(spot(Colour::Blue, blue)),
+                green: to(spot(Colour::Green, green)),
+            },
+            Gate::Cz(first, second) => cz(first.colour, to(first), second.colour, to(second)),
+            Gate::Cnot {
+                colour,
+                control,
+                target,
+            } => cnot(colour, to(spot(colour, control)), to(spot(colour, target))),
+        }
+    }
+}
+
 impl fmt::Display for Gate {
     fn fmt(&self, f: &mut fmt::Formatter) -> fmt::Result {
         match self {
@@ -75,14 +115,15 @@ impl fmt::Display for Gate {
 }
 
 pub fn cz(first: Colour, position: usize, second: Colour, other: usize) -> Gate {
-    let spot = |colour, position| Spot { colour, position };
     Gate::Cz(spot(first, position), spot(second, other))
 }
 
-/// The line `(layer GATE GATE ..)`.
-pub fn layer(gates: &[Gate]) -> String {
-    let spelled: Vec<String> = gates.iter().map(|gate| format!(" {gate}")).collect();
-    format!("(layer{})", spelled.concat())
+pub fn cnot(colour: Colour, control: usize, target: usize) -> Gate {
+    Gate::Cnot {
+        colour,
+        control,
+        target,
+    }
 }
 
 /// One bit to every position of every colour: bit p - 1 of a word is position p of that colour.

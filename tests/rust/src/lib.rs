@@ -5,6 +5,7 @@ pub mod conversation;
 pub mod elimination;
 pub mod forms;
 pub mod gates;
+pub mod layers;
 pub mod model;
 pub mod program;
 pub mod random;

@@ -4,6 +4,7 @@
 use crate::elimination::{Polynomial, one_colour, totals};
 use crate::forms::Form;
 use crate::gates::{Colour, Gate, Strings, added, word};
+use crate::layers::touches_twice;
 use crate::reference::FullSum;
 
 /// Gates that the history of `session` holds.
@@ -86,7 +87,8 @@ impl Sum {
     }
 }
 
-fn amplitude(m: usize, gates: &[Gate], sliced: Colour, output: Strings) -> i64 {
+/// S at an output string.
+pub fn amplitude(m: usize, gates: &[Gate], sliced: Colour, output: Strings) -> i64 {
     if m <= FULL_SUM {
         FullSum::of(m, gates).amplitude(output)
     } else {
@@ -127,12 +129,7 @@ fn allowed(byte: u8) -> bool {
 
 /// Whether a number of the form is outside its range, for a circuit of m positions.
 fn outside(form: &Form, m: usize) -> bool {
-    let position = |p: usize| !(1..=m).contains(&p);
-    let gate = |gate: &Gate| match *gate {
-        Gate::Ccz { red, blue, green } => [red, blue, green].into_iter().any(position),
-        Gate::Cz(first, second) => position(first.position) || position(second.position),
-        Gate::Cnot { control, target, .. } => position(control) || position(target),
-    };
+    let gate = |gate: &Gate| gate.spots().iter().any(|spot| !(1..=m).contains(&spot.position));
     let number = match form {
         Form::Circuit(m) => !(1..=16).contains(m),
         Form::Layer(gates) => !(1..=48).contains(&gates.len()),
@@ -195,6 +192,7 @@ impl Model {
         }
     }
 
+    /// In the order 9, 10, 14, 11.
     fn operands(&self, form: &Form) -> Result<(), u32> {
         let m = self.circuit.as_ref().map_or(0, |circuit| circuit.m);
         let onto_itself = |gate: &Gate| matches!(gate, Gate::Cnot { control, target, .. } if control == target);
@@ -203,6 +201,9 @@ impl Model {
         }
         if form.gates().iter().any(onto_itself) {
             return Err(10);
+        }
+        if matches!(form, Form::Layer(gates) if touches_twice(gates)) {
+            return Err(14);
         }
         if form.strings().iter().any(|digits| digits.len() != m) {
             return Err(11);

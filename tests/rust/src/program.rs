@@ -27,6 +27,12 @@ impl Program {
         Program { path }
     }
 
+    /// The path in WAITFIELD_OLDER: a program that the benchmark measures beside the other.
+    pub fn older_from_environment() -> Option<Program> {
+        let path = std::env::var_os("WAITFIELD_OLDER")?.into();
+        Some(Program { path })
+    }
+
     pub fn exists(&self) -> bool {
         self.path.is_file()
     }

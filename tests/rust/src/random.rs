@@ -1,6 +1,7 @@
 //! Random numbers, gates and strings from a seed (SplitMix64).
 
-use crate::gates::{COLOURS, Colour, Gate, Strings, cz};
+use crate::gates::{COLOURS, Colour, Gate, Strings, cnot, cz};
+use crate::layers::disjoint;
 
 pub struct Random(u64);
 
@@ -64,11 +65,7 @@ impl Random {
     pub fn cnot(&mut self, m: usize) -> Gate {
         let control = self.position(m);
         let target = 1 + (control + self.below(m - 1)) % m;
-        Gate::Cnot {
-            colour: self.colour(),
-            control,
-            target,
-        }
+        cnot(self.colour(), control, target)
     }
 
     pub fn gate(&mut self, m: usize) -> Gate {
@@ -81,5 +78,19 @@ impl Random {
 
     pub fn gates(&mut self, m: usize, count: usize) -> Vec<Gate> {
         (0..count).map(|_| self.gate(m)).collect()
+    }
+
+    /// A layer that can be fired, of what fits of so many gates.
+    pub fn layer(&mut self, m: usize, count: usize) -> Vec<Gate> {
+        disjoint(&self.gates(m, count))
+    }
+
+    /// The same things in any order.
+    pub fn shuffled<T: Clone>(&mut self, things: &[T]) -> Vec<T> {
+        let mut things = things.to_vec();
+        for place in (1..things.len()).rev() {
+            things.swap(place, self.below(place + 1));
+        }
+        things
     }
 }

@@ -98,10 +98,11 @@ impl Script {
         });
     }
 
-    /// The answers that are expected, those with the given first line counted.
-    pub fn expected(&self, first: &str) -> usize {
+    /// How many of the lines that are meant have an answer that begins so.
+    pub fn expected(&self, first: &str, is_meant: impl Fn(&[u8]) -> bool) -> usize {
         let all = self.cases.iter().flat_map(|case| &case.expected);
-        all.filter(|expected| expected.answer.first.starts_with(first)).count()
+        let found = all.filter(|expected| expected.answer.first.starts_with(first));
+        found.filter(|expected| is_meant(&expected.line)).count()
     }
 
     /// The expected answers against those of somebody else.

@@ -1,20 +1,13 @@
-//! The worked examples in the folder examples/. Three inputs are written by hand, two are made here.
+//! The worked examples in the folder examples/. Four inputs are written by hand, two are made here.
 
 use crate::circuits::{full_rank, hypercube};
-use crate::gates::{COLOURS, Colour, Gate, Strings, layer, spelled};
+use crate::gates::{COLOURS, Colour, Strings, spelled};
+use crate::layers::circuit;
 
-pub const NAMES: [&str; 5] = ["handover", "hypercube", "one-colour", "readout", "session"];
+pub const NAMES: [&str; 6] = ["handover", "hypercube", "layers", "one-colour", "readout", "session"];
 
 /// Positions of a colour in the made examples: 48 qubits.
 const M: usize = 16;
-
-fn circuit(layers: &[Vec<Gate>]) -> Vec<String> {
-    let begun = format!("(circuit {M})");
-    [begun]
-        .into_iter()
-        .chain(layers.iter().map(|gates| layer(gates)))
-        .collect()
-}
 
 fn amplitude(sliced: Colour, output: Strings) -> [String; 2] {
     let opened = format!("(amp {sliced} {})", spelled(M, output));
@@ -24,7 +17,7 @@ fn amplitude(sliced: Colour, output: Strings) -> [String; 2] {
 /// A circuit whose slices on red all have rank 16, so that each is 2^-16 of the largest: an amplitude that is lost where slices are
 /// scaled down before they are added. Every colour is sliced.
 fn handover() -> Vec<String> {
-    let mut lines = circuit(&full_rank(M, 48));
+    let mut lines = circuit(M, &full_rank(M, 48));
     for output in [[0; 3], [0x8001, 0x0f0f, 0x3c3c]] {
         lines.extend(COLOURS.into_iter().flat_map(|colour| amplitude(colour, output)));
     }
@@ -33,7 +26,7 @@ fn handover() -> Vec<String> {
 
 /// The circuit of source document 001 on 16 blocks, with some amplitudes and a readout count.
 fn hypercube_session() -> Vec<String> {
-    let mut lines = circuit(&hypercube(4));
+    let mut lines = circuit(M, &hypercube(4));
     for output in [[0; 3], [0x0001, 0, 0], [0x8001, 0x8001, 0], [0xffff; 3]] {
         lines.extend(amplitude(Colour::Red, output));
     }

@@ -1,28 +1,38 @@
-//! The speed of `session` beside two kernels in Rust, all measured by turns in one run. Prints tables of medians and
-//! ratios, and ends with a failure if the three do not give the same amplitudes, or if the counts of `session` are not
-//! those of the checks' elimination.
+//! The speed of `session` beside two kernels in Rust, and of lines that it takes beside the same lines read alone, all
+//! measured by turns in one run, and beside an older program if one is named. Prints tables of medians and ratios. Ends
+//! with a failure if the three do not give the same amplitudes, if counts are not those of the checks' elimination, or
+//! if a line has another answer than it should have.
 
+mod lines;
 mod measure;
 mod packed;
 mod plain;
 mod report;
 mod table;
 
+use lines::Lines;
 use measure::{measured, median, peak_memory};
 use packed::Packed;
 use plain::Plain;
-use report::{Figures, Samples};
+use report::{Figures, Samples, SessionSamples};
 use std::hint::black_box;
 use std::process::ExitCode;
 use table::Table;
 use waitfield_checks::elimination::{Polynomial, one_colour, totals};
-use waitfield_checks::gates::{Colour, Gate, Strings, digits, layer, spelled};
+use waitfield_checks::gates::{Colour, Gate, Strings, digits, spelled};
+use waitfield_checks::layers::{circuit, layers};
 use waitfield_checks::program::Program;
 use waitfield_checks::random::Random;
 use waitfield_checks::script::answers;
 
 /// Samples of each measurement; the median is taken.
 const ROUNDS: usize = 9;
+
+/// Samples of a program's sums in a round. Most of a round's time is the plain kernel's.
+const TURNS: usize = 3;
+
+/// Samples of each measurement of lines.
+const LINE_ROUNDS: usize = 21;
 
 /// Slices in a sample, whatever m is.
 const SLICES: usize = 1 << 16;
@@ -64,8 +74,7 @@ impl Work {
     }
 
     fn circuit(&self) -> String {
-        let layers: Vec<String> = self.gates.chunks(48).map(|gates| layer(gates) + "\n").collect();
-        format!("(circuit {})\n{}", self.m, layers.concat())
+        circuit(self.m, &layers(&self.gates)).join("\n") + "\n"
     }
 
     fn amplitudes(&self) -> String {
@@ -95,8 +104,32 @@ fn numbers(output: &[u8], word: &str, n: usize) -> Vec<i64> {
     lines.filter_map(|answer| number(&answer.first)).collect()
 }
 
-/// One round: each contender once, and their numbers compared.
-fn round(work: &Work, program: Option<&Program>, samples: &mut Samples) -> Result<(), String> {
+/// `session`, if it is built, and behind it an older program, if one is named.
+fn programs() -> Result<Vec<Program>, String> {
+    let session = Program::from_environment();
+    if !session.exists() {
+        println!("session is not built: the kernels in Rust only\n");
+        return Ok(Vec::new());
+    }
+    let older = Program::older_from_environment();
+    match older.iter().find(|older| !older.exists()) {
+        Some(older) => Err(format!("{} is not there", older.path.display())),
+        None => Ok([session].into_iter().chain(older).collect()),
+    }
+}
+
+/// The programs with their samples. Every other time the second is the first: what one has left warm is not always for
+/// the same other.
+fn in_turn<'a, S>(programs: &'a [Program], samples: &'a mut [S; 2], number: usize) -> Vec<(&'a Program, &'a mut S)> {
+    let mut turns: Vec<_> = programs.iter().zip(samples).collect();
+    if number % 2 == 1 {
+        turns.reverse();
+    }
+    turns
+}
+
+/// One round: each kernel once and each program a few times, and their numbers compared.
+fn round(work: &Work, programs: &[Program], samples: &mut Samples, number: usize) -> Result<(), String> {
     let (time, packed) = measured(|| -> Vec<i64> {
         let kernels = work.packed.iter();
         kernels.map(|kernel| black_box(kernel).amplitude()).collect()
@@ -110,21 +143,31 @@ fn round(work: &Work, program: Option<&Program>, samples: &mut Samples) -> Resul
     if packed != plain {
         return Err(format!("m = {}: the two kernels differ", work.m));
     }
-    match program {
-        Some(program) => session_round(work, program, samples, &packed),
-        None => Ok(()),
+    for turn in 0..TURNS {
+        for (program, samples) in in_turn(programs, &mut samples.programs, number + turn) {
+            session_round(work, program, samples, &packed)?;
+        }
     }
+    Ok(())
 }
 
-/// The program's part of a round: the circuit alone, with the amplitudes, with the counts, and with one colour read.
-fn session_round(work: &Work, program: &Program, samples: &mut Samples, amplitudes: &[i64]) -> Result<(), String> {
+/// A program's part of a round: the circuit alone, with the amplitudes, with the counts, and with one colour read.
+fn session_round(
+    work: &Work,
+    program: &Program,
+    samples: &mut SessionSamples,
+    amplitudes: &[i64],
+) -> Result<(), String> {
     let (m, circuit) = (work.m, work.circuit());
     let run = |sums: &str| measure::run(program, [&circuit, sums].concat().as_bytes());
     let timed = |sums: &str, word: &str, n: usize, expected: &[i64]| {
         let done = run(sums)?;
         match numbers(&done.output, word, n) == expected {
             true => Ok(done.time),
-            false => Err(format!("m = {m}: the numbers of session's ({word} ..) differ")),
+            false => Err(format!(
+                "{}, m = {m}: its numbers in ({word} ..) differ",
+                program.path.display()
+            )),
         }
     };
     samples.circuit.push(run("")?.time);
@@ -134,6 +177,22 @@ fn session_round(work: &Work, program: &Program, samples: &mut Samples, amplitud
     samples.counts.push(counts);
     let ones = timed(&work.ones(), "one", 2 * m, &work.expected_ones)?;
     samples.ones.push(ones);
+    Ok(())
+}
+
+/// All kinds of lines by turns.
+fn lines(programs: &[Program]) -> Result<(), String> {
+    let kinds = Lines::all();
+    let mut samples: [[lines::Samples; 2]; 3] = Default::default();
+    for number in 0..LINE_ROUNDS {
+        for (lines, samples) in kinds.iter().zip(&mut samples) {
+            for (program, samples) in in_turn(programs, samples, number) {
+                lines.round(program, samples)?;
+            }
+        }
+    }
+    let medians = |(lines, samples): (&Lines, [lines::Samples; 2])| lines::Figures::of(lines, samples);
+    report::print_lines(&kinds.iter().zip(samples).map(medians).collect::<Vec<_>>());
     Ok(())
 }
 
@@ -149,21 +208,20 @@ fn start_up(program: &Program) -> Result<(), String> {
 }
 
 fn run() -> Result<(), String> {
-    let program = Program::from_environment();
-    let program = program.exists().then_some(program);
-    if program.is_none() {
-        println!("session is not built: the kernels in Rust only\n");
-    }
+    let programs = programs()?;
     let work = SIZES.map(Work::new);
     let mut samples: [Samples; SIZES.len()] = Default::default();
-    for _ in 0..ROUNDS {
+    for number in 0..ROUNDS {
         for (work, samples) in work.iter().zip(&mut samples) {
-            round(work, program.as_ref(), samples)?;
+            round(work, &programs, samples, number)?;
         }
     }
     let medians = |(m, samples)| Figures::of(m, samples, SLICES);
     report::print(&SIZES.into_iter().zip(samples).map(medians).collect::<Vec<_>>());
-    program.as_ref().map_or(Ok(()), start_up)
+    match programs.first() {
+        Some(session) => lines(&programs).and_then(|()| start_up(session)),
+        None => Ok(()),
+    }
 }
 
 fn main() -> ExitCode {

@@ -32,11 +32,15 @@ pub fn run(program: &Program, input: &[u8]) -> Result<Run, String> {
     let failed = |error: std::io::Error| error.to_string();
     let begun = Instant::now();
     let mut child = program.start()?;
-    // The answers are few enough for the pipe to hold them while the input is written.
-    child.stdin.take().expect("piped").write_all(input).map_err(failed)?;
-    let mut output = Vec::new();
+    let mut stdin = child.stdin.take().expect("piped");
     let mut stdout = child.stdout.take().expect("piped");
-    stdout.read_to_end(&mut output).map_err(failed)?;
+    let mut output = Vec::new();
+    let read = thread::scope(|scope| {
+        // A program that stops reading early shows in its answers.
+        scope.spawn(move || stdin.write_all(input));
+        stdout.read_to_end(&mut output)
+    });
+    read.map_err(failed)?;
     let clock = begun.elapsed();
     let task = child.id().to_string();
     while !ended(&task) && begun.elapsed() < Duration::from_secs(60) {

@@ -1,5 +1,6 @@
 //! The tables that the benchmark prints.
 
+use crate::lines;
 use crate::measure::median;
 use std::time::Duration;
 
@@ -8,7 +9,13 @@ use std::time::Duration;
 pub struct Samples {
     pub packed: Vec<Duration>,
     pub plain: Vec<Duration>,
-    /// The program on the circuit alone, with amplitudes, with readout counts, and with counts of one colour read.
+    /// Those of `session`, and of an older program.
+    pub programs: [SessionSamples; 2],
+}
+
+/// A program on the circuit alone, with amplitudes, with readout counts, and with counts of one colour read.
+#[derive(Default)]
+pub struct SessionSamples {
     pub circuit: Vec<Duration>,
     pub amplitudes: Vec<Duration>,
     pub counts: Vec<Duration>,
@@ -21,32 +28,42 @@ pub struct Figures {
     packed: f64,
     plain: f64,
     session: Option<Session>,
+    older: Option<Session>,
 }
 
-/// The program's, less what it takes for the circuit.
+/// A program's, less what it takes for the circuit.
 struct Session {
     amplitude: f64,
     count: f64,
     one: f64,
 }
 
+impl Session {
+    /// None if the program was not measured.
+    fn of(samples: SessionSamples, a_slice: impl Fn(Duration) -> f64) -> Option<Session> {
+        if samples.circuit.is_empty() {
+            return None;
+        }
+        let circuit = median(samples.circuit);
+        let beyond = |times| a_slice(median(times).saturating_sub(circuit));
+        Some(Session {
+            amplitude: beyond(samples.amplitudes),
+            count: beyond(samples.counts),
+            one: beyond(samples.ones),
+        })
+    }
+}
+
 impl Figures {
     pub fn of(m: usize, samples: Samples, slices: usize) -> Figures {
         let a_slice = |time: Duration| time.as_nanos() as f64 / slices as f64;
-        let session = (!samples.circuit.is_empty()).then(|| {
-            let circuit = median(samples.circuit);
-            let beyond = |times| a_slice(median(times).saturating_sub(circuit));
-            Session {
-                amplitude: beyond(samples.amplitudes),
-                count: beyond(samples.counts),
-                one: beyond(samples.ones),
-            }
-        });
+        let [session, older] = samples.programs.map(|samples| Session::of(samples, a_slice));
         Figures {
             m,
             packed: a_slice(median(samples.packed)),
             plain: a_slice(median(samples.plain)),
             session,
+            older,
         }
     }
 
@@ -62,6 +79,17 @@ impl Figures {
             .map(Some),
             None => [None; 4],
         }
+    }
+
+    /// Session / older: amplitude, readout count, one colour.
+    fn to_older(&self) -> Option<[Option<f64>; 3]> {
+        let (session, older) = (self.session.as_ref()?, self.older.as_ref()?);
+        let ratios = [
+            session.amplitude / older.amplitude,
+            session.count / older.count,
+            session.one / older.one,
+        ];
+        Some(ratios.map(Some))
     }
 
     fn times(&self) -> [Option<f64>; 3] {
@@ -100,5 +128,33 @@ pub fn print(all: &[Figures]) {
         let growth = [0, 1, 2].map(|k| now[k].zip(before[k]).map(|(now, before): (f64, f64)| now / before));
         println!("| {} | {} | {} |", figures.m, cells(now, 3), cells(growth, 2));
         before = now;
+    }
+    print_beside_older(all);
+}
+
+fn print_beside_older(all: &[Figures]) {
+    let ratios: Vec<_> = all
+        .iter()
+        .filter_map(|figures| Some((figures.m, figures.to_older()?)))
+        .collect();
+    if ratios.is_empty() {
+        return;
+    }
+    println!("\nSums beside those of the older program, session / older.\n");
+    println!("| m | amplitude | readout | one colour |");
+    println!("|---|---|---|---|");
+    for (m, ratios) in ratios {
+        println!("| {m} | {} |", cells(ratios, 2));
+    }
+}
+
+pub fn print_lines(all: &[lines::Figures]) {
+    println!("\nLines: millions a second, and ratios of times.\n");
+    let ratios = "taken / read alone | taken, session / older | read alone, session / older";
+    println!("| lines at m = 16 | lines | gates | {ratios} |");
+    println!("|---|---|---|---|---|---|");
+    for figures in all {
+        let (speed, ratios) = (cells(figures.speed, 2), cells(figures.ratios, 2));
+        println!("| {} | {speed} | {ratios} |", figures.name);
     }
 }

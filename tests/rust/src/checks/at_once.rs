@@ -9,7 +9,7 @@ use std::time::Duration;
 use waitfield_checks::circuits::every_term;
 use waitfield_checks::conversation::{Conversation, INPUT_FAILED, Pace};
 use waitfield_checks::elimination::Polynomial;
-use waitfield_checks::gates::layer;
+use waitfield_checks::layers::{circuit, layers};
 use waitfield_checks::model::Model;
 use waitfield_checks::program::Program;
 use waitfield_checks::script::{Expected, answers};
@@ -155,9 +155,7 @@ pub fn listing_read_slowly(talk: &mut Conversation) -> Result<(), String> {
     if terms != MOST_TERMS {
         return Err(format!("the model's polynomial has {terms} terms"));
     }
-    let layers = gates.chunks(48).map(layer);
-    let lines: Vec<String> = ["(circuit 16)".to_string()].into_iter().chain(layers).collect();
-    ask_all(talk, &mut model, &lines)?;
+    ask_all(talk, &mut model, &circuit(16, &layers(&gates)))?;
     talk.give(b"(terms)\n")?;
     thread::sleep(Duration::from_millis(300));
     answered(talk, &mut model, "(terms)", SLOWLY)?;

@@ -1,7 +1,9 @@
 //! Random circuits with all gates, layers, undos and starting strings, every colour sliced, against the full sum.
 
 use crate::Checks;
-use waitfield_checks::gates::{COLOURS, Gate, Strings, added, layer, spelled};
+use crate::grammar::covered;
+use waitfield_checks::gates::{COLOURS, Gate, Strings, added, spelled};
+use waitfield_checks::layers::{layer, layers, touches_twice};
 use waitfield_checks::model::listing;
 use waitfield_checks::random::Random;
 use waitfield_checks::reference::FullSum;
@@ -9,6 +11,9 @@ use waitfield_checks::script::Script;
 
 /// Circuits of each m for a seed.
 const CIRCUITS: usize = 60;
+
+/// What the circuits of a seed must have met to mean something.
+const MET: [&str; 4] = ["(amp -", "(no 7)", "(no 12)", "(no 14)"];
 
 /// Lines that an open sum turns back, with their refusals; none changes it.
 const BETWEEN: [(&str, &str); 13] = [
@@ -54,6 +59,12 @@ pub fn sum(script: &mut Script, random: &mut Random, m: usize, line: String, ans
     }
 }
 
+/// Gates in layers that are taken.
+pub fn in_layers(script: &mut Script, gates: &[Gate]) {
+    let layers = layers(gates);
+    layers.iter().for_each(|gates| script.say(layer(gates), "(ok)"));
+}
+
 /// Lines that build a circuit, its gates and its starting string.
 pub fn build(script: &mut Script, random: &mut Random, m: usize) -> (Vec<Gate>, Strings) {
     let mut gates = Vec::new();
@@ -66,11 +77,18 @@ pub fn build(script: &mut Script, random: &mut Random, m: usize) -> (Vec<Gate>, 
                 script.say(gate.to_string(), "(ok)");
                 gates.push(gate);
             }
-            4 | 5 => {
+            4 => {
                 let count = random.pick(&[1, 2, 3, 5, 8, 48]);
                 let several = random.gates(m, count);
-                script.say(layer(&several), "(ok)");
+                in_layers(script, &several);
                 gates.extend(several);
+            }
+            5 => {
+                let count = random.pick(&[2, 3, 5]);
+                let several = random.gates(m, count);
+                let twice = touches_twice(&several);
+                script.say(layer(&several), if twice { "(no 14)" } else { "(ok)" });
+                gates.extend(several.iter().filter(|_| !twice));
             }
             6 => {
                 let k = 1 + random.below(gates.len() + 2);
@@ -129,5 +147,6 @@ pub fn check(checks: &mut Checks) {
             }
         }
         checks.run(&script);
+        covered(checks, &script, &format!("random circuits, seed {seed}"), &MET);
     }
 }

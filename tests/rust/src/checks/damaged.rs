@@ -7,9 +7,11 @@ use waitfield_checks::model::Model;
 use waitfield_checks::random::Random;
 use waitfield_checks::script::Script;
 
-/// A session with every form in it.
+/// A session with every form in it. The first layer touches red 1 and blue 2 twice.
 pub const EVERY_FORM: &str = "(circuit 2)
 (layer (ccz 1 2 1) (cz (g 2) (r 1)) (cnot b 2 1))
+(layer (ccz 1 2 1) (cz (g 2) (r 2)))
+(layer (cnot b 2 1) (cz (g 2) (r 1)))
 (cz (r 1) (b 2))
 (cnot r 1 2)
 (ccz 2 2 2)

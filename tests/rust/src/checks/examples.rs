@@ -3,6 +3,8 @@
 use crate::Checks;
 use std::fs;
 use std::path::PathBuf;
+use waitfield_checks::forms::Form;
+use waitfield_checks::layers::touches_twice;
 use waitfield_checks::model::Model;
 use waitfield_checks::program::repository;
 use waitfield_checks::script::answers;
@@ -18,6 +20,20 @@ fn inputs() -> Result<Vec<PathBuf>, String> {
         .collect();
     inputs.sort();
     Ok(inputs)
+}
+
+/// Whether every layer of an input can be fired.
+fn layers(input: &[u8]) -> Result<(), String> {
+    for line in input.split(|&byte| byte == b'\n') {
+        let text = String::from_utf8_lossy(line);
+        let Some(Form::Layer(gates)) = Form::read(&text) else {
+            continue;
+        };
+        if touches_twice(&gates) {
+            return Err(format!("{text} touches a position twice"));
+        }
+    }
+    Ok(())
 }
 
 pub fn check(checks: &mut Checks) {
@@ -40,6 +56,9 @@ pub fn check(checks: &mut Checks) {
             }
         };
         let expected = answers(&expected);
+        checks
+            .tally
+            .check(&format!("{name}: its layers can be fired"), layers(&input));
         let model = (Model::session(&input), Vec::new());
         checks
             .tally

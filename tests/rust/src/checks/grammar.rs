@@ -1,7 +1,9 @@
 //! Random lines, most of them right and some with a mistake, against the model.
 
 use crate::Checks;
-use waitfield_checks::gates::{digits, layer};
+use waitfield_checks::forms::Form;
+use waitfield_checks::gates::{Gate, cnot, cz, digits};
+use waitfield_checks::layers::{layer, layers, touches_twice};
 use waitfield_checks::model::{HISTORY, Model};
 use waitfield_checks::random::Random;
 use waitfield_checks::script::Script;
@@ -9,6 +11,9 @@ use waitfield_checks::script::Script;
 /// Lines for a seed, and how many of them make one check.
 const LINES: usize = 6000;
 const IN_A_CHECK: usize = 50;
+
+/// Layers before there is a circuit.
+const LAYERS: usize = 50;
 
 /// Random lines for a circuit of m positions. One that fills the history gives no new circuit and takes little back.
 struct Writer {
@@ -67,13 +72,34 @@ impl Writer {
         }
     }
 
+    /// A gate that is refused by 5, 9 or 10.
+    fn wrong_gate(&mut self) -> Gate {
+        let (m, colour) = (self.m, self.random.colour());
+        let [p, q] = [0; 2].map(|_| self.random.position(m));
+        match self.random.below(3) {
+            0 => cz(colour, p, colour, q),
+            1 => cnot(colour, p, m + 1),
+            _ => cnot(colour, p, p),
+        }
+    }
+
+    /// Every other layer can be fired. Most of the others touch a position twice, whatever else is wrong with them.
     fn layer(&mut self) -> String {
         let count = self.random.pick(&[0, 1, 2, 3, 4, 5, 6, 20, 48, 49]);
-        if count > 6 {
-            return layer(&self.random.gates(self.m, count));
+        match self.random.below(6) {
+            0..=2 => layer(&self.random.layer(self.m, count)),
+            3 => {
+                let mut gates = self.random.gates(self.m, count);
+                let place = self.random.below(count + 1);
+                gates.insert(place, self.wrong_gate());
+                layer(&gates)
+            }
+            _ if count > 6 => layer(&self.random.gates(self.m, count)),
+            _ => {
+                let gates: Vec<String> = (0..count).map(|_| format!(" {}", self.gate())).collect();
+                format!("(layer{})", gates.concat())
+            }
         }
-        let gates: Vec<String> = (0..count).map(|_| format!(" {}", self.gate())).collect();
-        format!("(layer{})", gates.concat())
     }
 
     /// Small circuits mostly, since the model takes its time for the others.
@@ -157,28 +183,54 @@ fn lines(script: &mut Script, model: &mut Model, writer: &mut Writer, name: &str
 
 /// The lines themselves: they must have met every kind of answer often enough to mean something.
 pub fn covered(checks: &mut Checks, script: &Script, name: &str, answers: &[&str]) {
+    covered_by(checks, script, &format!("{name}: by any line"), answers, |_| true);
+}
+
+fn covered_by(checks: &mut Checks, script: &Script, name: &str, answers: &[&str], is_meant: fn(&[u8]) -> bool) {
     for answer in answers {
-        let count = script.expected(answer);
+        let count = script.expected(answer, is_meant);
         let outcome = if count >= 5 {
             Ok(())
         } else {
             Err(format!("expected {count} times only"))
         };
-        checks.tally.check(&format!("{name}: {answer} is met"), outcome);
+        checks.tally.check(&format!("{name} {answer} is met"), outcome);
     }
 }
 
-const MET: [&str; 17] = [
+/// Whether a line is a layer that touches a position twice, a CNOT on itself not counted.
+fn is_clash(line: &[u8]) -> bool {
+    let Some(Form::Layer(mut gates)) = std::str::from_utf8(line).ok().and_then(Form::read) else {
+        return false;
+    };
+    gates.retain(|gate| !matches!(gate, Gate::Cnot { control, target, .. } if control == target));
+    touches_twice(&gates)
+}
+
+/// The same for layers that 14 fits, beside what else they are refused by.
+fn covered_by_clashes(checks: &mut Checks, script: &Script, name: &str, answers: &[&str]) {
+    let name = format!("{name}: by a layer that touches a position twice");
+    covered_by(checks, script, &name, answers, is_clash);
+}
+
+const MET: [&str; 18] = [
     "(ok)", "(left ", "(amp ", "(amp -", "(part ", "(one ", "(terms ", "(no 2)", "(no 3)", "(no 4)", "(no 5)",
-    "(no 7)", "(no 8)", "(no 9)", "(no 10)", "(no 11)", "(no 12)",
+    "(no 7)", "(no 8)", "(no 9)", "(no 10)", "(no 11)", "(no 12)", "(no 14)",
 ];
+
+const MET_BY_CLASHES: [&str; 6] = ["(no 5)", "(no 6)", "(no 7)", "(no 9)", "(no 10)", "(no 14)"];
 
 fn any_lines(checks: &mut Checks, writer: &mut Writer, seed: u64) {
     let name = format!("random lines, seed {seed}");
     let (mut script, mut model) = (Script::default(), Model::default());
+    script.case(format!("{name}: layers with no circuit"));
+    for _ in 0..LAYERS {
+        script.bytes(&mut model, format!("{}\n", writer.layer()).as_bytes());
+    }
     lines(&mut script, &mut model, writer, &name, LINES);
     checks.run(&script);
     covered(checks, &script, &name, &MET);
+    covered_by_clashes(checks, &script, &name, &MET_BY_CLASHES);
 }
 
 /// Lines on a history that is filled up again and again.
@@ -192,13 +244,14 @@ fn lines_on_full_history(checks: &mut Checks, writer: &mut Writer, seed: u64) {
         script.case(format!("{name}: filled up"));
         script.bytes(&mut model, b"(drop)\n");
         let held = model.circuit().map_or(0, |circuit| circuit.gates.len());
-        for several in writer.random.gates(2, HISTORY - held).chunks(48) {
-            script.bytes(&mut model, format!("{}\n", layer(several)).as_bytes());
+        for several in layers(&writer.random.gates(2, HISTORY - held)) {
+            script.bytes(&mut model, format!("{}\n", layer(&several)).as_bytes());
         }
-        lines(&mut script, &mut model, writer, &name, 100);
+        lines(&mut script, &mut model, writer, &name, 300);
     }
     checks.run(&script);
     covered(checks, &script, &name, &["(no 13)"]);
+    covered_by_clashes(checks, &script, &name, &["(no 14)"]);
 }
 
 pub fn check(checks: &mut Checks) {

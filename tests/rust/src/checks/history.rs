@@ -1,17 +1,14 @@
 //! The history of 4,096 gates: filled, overfull, taken back and used again.
 
 use crate::Checks;
+use crate::circuits::in_layers;
 use waitfield_checks::elimination::Polynomial;
-use waitfield_checks::gates::{Gate, layer, spelled};
+use waitfield_checks::gates::{COLOURS, Gate, cnot, spelled};
+use waitfield_checks::layers::layer;
 use waitfield_checks::model::{HISTORY, listing};
 use waitfield_checks::random::Random;
 use waitfield_checks::reference::FullSum;
 use waitfield_checks::script::Script;
-
-/// Gates in layers of at most 48.
-pub fn in_layers(script: &mut Script, gates: &[Gate]) {
-    gates.chunks(48).for_each(|several| script.say(layer(several), "(ok)"));
-}
 
 /// Terms and an amplitude, by the full sum.
 fn seen(script: &mut Script, random: &mut Random, m: usize, gates: &[Gate]) {
@@ -32,10 +29,16 @@ fn overfull(script: &mut Script, random: &mut Random, m: usize) {
     for line in [&gate, "(ccz 1 1 1)", "(cz (g 1) (r 2))", "(cnot b 2 1)"] {
         script.say(line, "(no 13)");
     }
-    for count in [1, 2, 48] {
-        script.say(layer(&random.gates(m, count)), "(no 13)");
+    for count in [1, 2, 3] {
+        script.say(layer(&random.layer(m, count)), "(no 13)");
     }
+    script.say(layer(&random.gates(m, 48)), "(no 14)");
     script.say(layer(&random.gates(m, 49)), "(no 9)");
+}
+
+/// A layer with a CNOT in each colour.
+fn one_a_colour() -> [Gate; 3] {
+    COLOURS.map(|colour| cnot(colour, 1, 2))
 }
 
 fn filled_and_taken_back(script: &mut Script, random: &mut Random, m: usize) {
@@ -51,14 +54,14 @@ fn filled_and_taken_back(script: &mut Script, random: &mut Random, m: usize) {
     script.case(format!("the 4,097th gate refused, m = {m}"));
     overfull(script, random, m);
     seen(script, random, m, &gates);
-    script.case(format!("room for three gates, m = {m}"));
-    script.say("(undo 3)", "(ok)");
-    script.say(layer(&random.gates(m, 4)), "(no 13)");
-    seen(script, random, m, &gates[..4093]);
-    let others = random.gates(m, 3);
-    script.say(layer(&others), "(ok)");
+    script.case(format!("room for two gates, m = {m}"));
+    script.say("(undo 2)", "(ok)");
+    let three = one_a_colour();
+    script.say(layer(&three), "(no 13)");
+    seen(script, random, m, &gates[..4094]);
+    script.say(layer(&three[1..]), "(ok)");
     overfull(script, random, m);
-    seen(script, random, m, &[&gates[..4093], &others[..]].concat());
+    seen(script, random, m, &[&gates[..4094], &three[1..]].concat());
     let mut held = HISTORY;
     for fewer in [4093, 4000, 1025, 1024, 1, 0] {
         script.case(format!("taken back to {fewer} gates, m = {m}"));

@@ -1,8 +1,10 @@
 //! The worked listing, the known sums and the edges, as document 01 gives them.
 
 use crate::Checks;
+use waitfield_checks::circuits::every_position;
 use waitfield_checks::gates::Colour::{Blue, Red};
-use waitfield_checks::gates::{COLOURS, Gate, cz, layer};
+use waitfield_checks::gates::{COLOURS, Gate, cz};
+use waitfield_checks::layers::layer;
 use waitfield_checks::model::listing;
 use waitfield_checks::script::Script;
 
@@ -126,16 +128,19 @@ fn edges(checks: &mut Checks) {
     edge(long_circuit(1023), "(no 9)");
     edge(long_circuit(1024), "(no 9)");
     edge(long_circuit(1025), "(no 2)");
-    let farthest = cz(Red, 16, Blue, 16);
-    for count in [1, 2, 47, 48] {
-        edge(layer(&vec![farthest; count]), "(ok)");
-        edge(layer(&vec![CNOT; count]), "(ok)");
+    for gate in [cz(Red, 16, Blue, 16), CNOT, CCZ] {
+        edge(layer(&[gate]), "(ok)");
+        // No layer of 25 gates or more can be fired: what 48 show is that 9 is not given.
+        for count in [2, 24, 25, 47, 48] {
+            edge(layer(&vec![gate; count]), "(no 14)");
+        }
+        edge(layer(&vec![gate; 49]), "(no 9)");
     }
-    edge(layer(&vec![CCZ; 49]), "(no 9)");
+    edge(layer(&every_position(16)), "(ok)");
     edge("(layer)".into(), "(no 9)");
-    // Twice 98 gates are held, no more.
-    edge("(undo 197)".into(), "(no 12)");
-    edge("(undo 196)".into(), "(ok)");
+    // Three single gates and a layer of 24 are held, no more.
+    edge("(undo 28)".into(), "(no 12)");
+    edge("(undo 27)".into(), "(ok)");
     checks.run(&script);
 }
 

@@ -4,14 +4,18 @@ use crate::Checks;
 use waitfield_checks::circuits::{block_ccz, full_rank, hypercube, in_blocks};
 use waitfield_checks::elimination::{Polynomial, totals};
 use waitfield_checks::gates::Colour::{Blue, Green, Red};
-use waitfield_checks::gates::{COLOURS, Colour, Gate, Strings, cz, digits, layer, spelled};
+use waitfield_checks::gates::{COLOURS, Colour, Gate, Strings, cz, digits, spelled};
+use waitfield_checks::layers::{self, layers};
 use waitfield_checks::model::listing;
 use waitfield_checks::random::Random;
 use waitfield_checks::script::Script;
 
+/// Gates of a dense circuit.
+pub const DENSE: usize = 384;
+
 pub fn circuit(script: &mut Script, m: usize, layers: &[Vec<Gate>]) {
-    script.line(format!("(circuit {m})"), "(ok)".to_string());
-    layers.iter().for_each(|gates| script.say(layer(gates), "(ok)"));
+    let lines = layers::circuit(m, layers);
+    lines.iter().for_each(|line| script.say(line, "(ok)"));
 }
 
 /// The amplitude with the given colour sliced, in one step and in steps that leave odd remainders.
@@ -121,7 +125,7 @@ pub fn check(checks: &mut Checks) {
     for seed in checks.seeds.clone() {
         let mut random = Random::new(seed);
         for m in 13..=16 {
-            let layers: Vec<Vec<Gate>> = (0..8).map(|_| random.gates(m, 48)).collect();
+            let layers = layers(&random.gates(m, DENSE));
             let output = random.strings(m);
             eliminated(
                 checks,

@@ -9,6 +9,7 @@ mod grammar;
 mod history;
 mod known;
 mod large;
+mod layers;
 mod middle;
 mod one_colour;
 mod own;
@@ -84,6 +85,7 @@ groups! {
     "middle circuits": middle,
     "large circuits": large,
     "refusals": refusals,
+    "layers": layers,
     "history": history,
     "damaged input": damaged,
     "random lines": grammar,

@@ -2,10 +2,10 @@
 //! every colour sliced and every colour unread, against the independent elimination.
 
 use crate::Checks;
-use crate::circuits::{build, sum};
+use crate::circuits::{build, in_layers, sum};
 use crate::grammar::covered;
 use waitfield_checks::elimination::{Polynomial, Totals, totals};
-use waitfield_checks::gates::{COLOURS, Colour, Gate, Strings, added, digits, layer, spelled};
+use waitfield_checks::gates::{COLOURS, Colour, Gate, Strings, added, digits, spelled};
 use waitfield_checks::model::listing;
 use waitfield_checks::random::Random;
 use waitfield_checks::script::Script;
@@ -15,19 +15,17 @@ pub const SIZES: std::ops::RangeInclusive<usize> = 5..=12;
 /// Circuits of each m for a seed. Every third is left sparse.
 const CIRCUITS: usize = 12;
 
-/// Layers of 48 gates that make a circuit dense: its slices have any rank up to m.
-const LAYERS: usize = 6;
+/// Gates that make a circuit dense: its slices have any rank up to m.
+const THICK: usize = 288;
 
 /// What the random circuits of one m must have met to mean something.
 const MET: [&str; 2] = ["(amp -", "(no 7)"];
 
-/// Whole layers behind a circuit, and some of their gates taken back.
+/// Many layers behind a circuit, and some of their gates taken back.
 pub fn thicken(script: &mut Script, random: &mut Random, m: usize, gates: &mut Vec<Gate>) {
-    for _ in 0..LAYERS {
-        let several = random.gates(m, 48);
-        script.say(layer(&several), "(ok)");
-        gates.extend(several);
-    }
+    let several = random.gates(m, THICK);
+    in_layers(script, &several);
+    gates.extend(several);
     let k = 1 + random.below(48);
     script.say(format!("(undo {k})"), "(ok)");
     gates.truncate(gates.len() - k);

@@ -2,15 +2,16 @@
 //! readout counts, larger circuits against the independent elimination and in closed form.
 
 use crate::Checks;
-use crate::circuits::{build, sum};
+use crate::circuits::{build, in_layers, sum};
 use crate::grammar::covered;
-use crate::large::circuit;
+use crate::large::{DENSE, circuit};
 use crate::middle::{SIZES, thicken};
 use crate::readouts::{counted, given, part};
 use waitfield_checks::circuits::{block_ccz, full_rank, hypercube, in_blocks};
 use waitfield_checks::elimination::{Polynomial, one_colour};
 use waitfield_checks::gates::Colour::{Blue, Green, Red};
-use waitfield_checks::gates::{COLOURS, Colour, Gate, Strings, added, cz, digits, layer, spelled};
+use waitfield_checks::gates::{COLOURS, Colour, Gate, Strings, added, cz, digits, spelled};
+use waitfield_checks::layers::layers;
 use waitfield_checks::program::Program;
 use waitfield_checks::random::Random;
 use waitfield_checks::reference::FullSum;
@@ -62,7 +63,7 @@ fn small(script: &mut Script, random: &mut Random, m: usize) {
         ask(script, random, &gates);
     }
     let several = random.gates(m, 5);
-    script.say(layer(&several), "(ok)");
+    in_layers(script, &several);
     gates.extend(several);
     ask(script, random, &gates);
 }
@@ -271,7 +272,7 @@ pub fn check(checks: &mut Checks) {
         totals(checks, &mut random, seed);
         SIZES.for_each(|m| middle(checks, &mut random, seed, m));
         for m in 13..=16 {
-            let layers: Vec<Vec<Gate>> = (0..8).map(|_| random.gates(m, 48)).collect();
+            let layers = layers(&random.gates(m, DENSE));
             let name = format!("dense circuit, seed {seed}, m = {m}");
             large_circuit(checks, &mut random, &name, m, &layers);
         }

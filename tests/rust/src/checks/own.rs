@@ -5,7 +5,8 @@ use crate::Checks;
 use crate::known::{LISTING, ONE_COLOUR, known_sums};
 use std::fmt::Debug;
 use waitfield_checks::elimination::{Polynomial, one_colour, totals};
-use waitfield_checks::gates::{COLOURS, Colour, Strings, word};
+use waitfield_checks::gates::{COLOURS, Colour, Gate, Spot, Strings, word};
+use waitfield_checks::layers::{layers, touches_twice};
 use waitfield_checks::model::Model;
 use waitfield_checks::random::Random;
 use waitfield_checks::reference::{FullSum, joined};
@@ -48,6 +49,27 @@ fn known_one_colour(checks: &mut Checks) {
         let name = format!("the model on (one g {read}) started at {start}");
         checks.tally.equal(&name, last, expected.to_vec());
     }
+}
+
+/// Whether two gates of a list touch the same position, or one of them touches one twice: place by place, without a
+/// set.
+fn any_shared(gates: &[Gate]) -> bool {
+    let spots: Vec<Spot> = gates.iter().flat_map(Gate::spots).collect();
+    (1..spots.len()).any(|place| spots[..place].contains(&spots[place]))
+}
+
+/// Random gates cut into layers: the same gates, none of the layers touches a position twice, and none could take the
+/// next gate as well.
+fn cut(random: &mut Random, m: usize) -> Result<(), String> {
+    let gates = random.gates(m, 100);
+    let layers = layers(&gates);
+    same("the gates of the layers and all gates", layers.concat(), gates)?;
+    for pair in layers.windows(2) {
+        let more = [&pair[0][..], &pair[1][..1]].concat();
+        let found = [&pair[0], &more].map(|gates| (any_shared(gates), touches_twice(gates)));
+        same("a layer, and with the next gate", found, [(false, false), (true, true)])?;
+    }
+    Ok(())
 }
 
 /// A random circuit by the full sum and by elimination: terms, amplitudes of every sliced colour, readout counts.
@@ -141,6 +163,10 @@ pub fn check(checks: &mut Checks) {
     known_one_colour(checks);
     for seed in checks.seeds.clone() {
         let mut random = Random::new(seed);
+        for m in 1..=16 {
+            let name = format!("gates cut into layers, seed {seed}, m = {m}");
+            checks.tally.check(&name, cut(&mut random, m));
+        }
         for (m, circuits) in CIRCUITS {
             for number in 0..circuits {
                 let name = format!("full sum and elimination, seed {seed}, m = {m}, circuit {number}");

@@ -6,7 +6,7 @@ mod operands;
 mod pairs;
 
 use crate::Checks;
-use crate::history::in_layers;
+use crate::circuits::in_layers;
 use waitfield_checks::gates::Gate;
 use waitfield_checks::model::{HISTORY, Model, listing};
 use waitfield_checks::script::Script;
@@ -113,15 +113,15 @@ pub fn check(checks: &mut Checks) {
         }
         end(&mut script, moment);
         checks.run(&script);
-        model_agrees(checks, &script, moment);
+        model_agrees(checks, &script, &format!("{moment:?}"));
     }
 }
 
-/// The model is held to the same tables, since the random lines are judged by it.
-fn model_agrees(checks: &mut Checks, script: &Script, moment: Moment) {
+/// The model is held to the same answers, since the random lines are judged by it.
+pub fn model_agrees(checks: &mut Checks, script: &Script, name: &str) {
     let mut model = Model::default();
     let outcome = script.answered_by(|line| model.answer(line));
     checks
         .tally
-        .check(&format!("{moment:?}: the model on the same lines"), outcome);
+        .check(&format!("{name}: the model on the same lines"), outcome);
 }

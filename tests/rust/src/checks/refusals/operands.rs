@@ -1,8 +1,8 @@
-//! Refusals 6 to 13 at the edges of their ranges.
+//! Refusals 6 to 14 at the edges of their ranges.
 
 use super::Moment::{Fresh, Full, FullOpen, Held, OneOpen, Open};
 use super::{GATE, Refused, refused};
-use waitfield_checks::gates::layer;
+use waitfield_checks::layers::layer;
 
 /// Every form but `circuit`, `step` and `drop`, with operands that a circuit of two positions takes.
 const TAKEN: &[&str] = &[
@@ -52,8 +52,8 @@ const OUT_OF_RANGE: &[&str] = &[
     "(cnot g 1 18446744073709551617)",
     "(layer)",
     "(layer (ccz 3 1 1))",
-    "(layer (ccz 1 1 1) (ccz 1 1 3))",
-    "(layer (ccz 1 0 1) (ccz 1 1 1))",
+    "(layer (ccz 1 1 1) (ccz 2 2 3))",
+    "(layer (ccz 1 0 1) (ccz 2 1 2))",
     "(undo 0)",
     "(undo 4097)",
     "(undo 65537)",
@@ -105,6 +105,29 @@ const OTHER_LENGTH: &[&str] = &[
     "(one r 000)",
     "(one b 111)",
     "(one g 0000000000000000)",
+];
+
+const TOUCHED_TWICE: &[&str] = &[
+    "(layer (ccz 1 2 1) (ccz 1 2 1))",
+    "(layer (ccz 1 1 1) (ccz 1 2 2))",
+    "(layer (ccz 1 1 1) (ccz 2 1 2))",
+    "(layer (ccz 1 1 1) (ccz 2 2 1))",
+    "(layer (cz (r 1) (b 1)) (cz (r 1) (b 1)))",
+    "(layer (cz (r 1) (b 1)) (cz (b 1) (r 1)))",
+    "(layer (cz (r 1) (b 1)) (cz (r 1) (g 1)))",
+    "(layer (cz (r 1) (b 1)) (cz (g 2) (r 1)))",
+    "(layer (cnot r 1 2) (cnot r 1 2))",
+    "(layer (cnot r 1 2) (cnot r 2 1))",
+    "(layer (ccz 2 1 1) (cz (b 2) (r 2)))",
+    "(layer (cz (g 1) (b 2)) (ccz 1 2 2))",
+    "(layer (ccz 1 1 1) (cnot g 1 2))",
+    "(layer (ccz 1 1 1) (cnot g 2 1))",
+    "(layer (cnot b 1 2) (ccz 1 1 1))",
+    "(layer (cnot b 2 1) (ccz 1 1 1))",
+    "(layer (cz (g 2) (r 1)) (cnot g 1 2))",
+    "(layer (cnot g 2 1) (cz (r 1) (g 2)))",
+    "(layer (cnot r 1 2) (cnot b 1 2) (cnot g 1 2) (ccz 1 1 1))",
+    "(layer (cz (r 1) (b 1)) (cz (g 1) (r 2)) (cz (b 2) (g 1)))",
 ];
 
 fn all(lines: &[&str], moments: &[super::Moment], number: u32, why: &str) -> Vec<Refused> {
@@ -166,9 +189,14 @@ pub fn table() -> Vec<Refused> {
         refused(GATE.to_string(), &[Full], 13, "no free place"),
         refused("(cz (r 1) (b 1))", &[Full], 13, "no free place"),
         refused("(cnot r 1 2)", &[Full], 13, "no free place"),
-        refused(layer(&[GATE; 1]), &[Full], 13, "no free place"),
-        refused(layer(&[GATE; 2]), &[Full], 13, "no free place"),
-        refused(layer(&[GATE; 48]), &[Full], 13, "no free place"),
+        refused("(layer (ccz 1 2 1))", &[Full], 13, "no free place"),
+        refused("(layer (ccz 1 2 1) (ccz 2 1 2))", &[Full], 13, "no free place"),
+        refused(
+            "(layer (cnot r 1 2) (cnot b 2 1) (cnot g 1 2))",
+            &[Full],
+            13,
+            "no free place",
+        ),
     ];
     lines.extend(all(TAKEN, &[Fresh], 6, "no circuit"));
     lines.extend(all(ON_SUM, &[Fresh], 6, "no circuit"));
@@ -179,6 +207,10 @@ pub fn table() -> Vec<Refused> {
     lines.extend(all(STEP_OUT_OF_RANGE, &sum, 9, "out of range"));
     lines.extend(all(ONTO_ITSELF, &no_sum, 10, "control is target"));
     lines.extend(all(OTHER_LENGTH, &no_sum, 11, "not m long"));
+    lines.extend(all(TOUCHED_TWICE, &no_sum, 14, "a position twice"));
+    for count in [2, 3, 24, 25, 47, 48] {
+        lines.push(refused(layer(&vec![GATE; count]), &no_sum, 14, "one gate many times"));
+    }
     lines.extend(long_operands());
     lines
 }

@@ -1,11 +1,12 @@
-//! Lines that two refusals fit, for every pair that can meet; the place higher up wins, and in a place the lower number.
-//! 3 stands here beside what the line would get without the byte. Pairs that are not here never meet: 9 and 11, 6 and 7, 7 and 8,
-//! 6 and 13 in a program that lends 4,096 places, 5 or 8 beside what only other forms get, and any two of 11, 12 and 13.
+//! Lines that two refusals fit, for every pair that can meet; the place higher up wins, and in a place the number that
+//! is tried first, the lower one but for 14 before 11. 3 stands here beside what the line would get without the byte.
+//! Pairs that are not here never meet: 9 and 11, 6 and 7, 7 and 8, 6 and 13 in a program that lends 4,096 places, 5 or
+//! 8 beside what only other forms get, and any two of 11, 12, 13 and 14 but 14 and 13.
 
 use super::Moment::{Fresh, Full, FullOpen, Held, OneOpen, Open};
 use super::{GATE, MOMENTS, Moment, Refused, refused};
-use waitfield_checks::gates::{Colour::Red, Gate};
-use waitfield_checks::gates::{cz, layer};
+use waitfield_checks::gates::{Colour::Red, Gate, cnot, cz};
+use waitfield_checks::layers::layer;
 
 /// The refusal, the one it wins over, the moments, and the line.
 type Pair = (u32, u32, &'static [Moment], &'static str);
@@ -30,6 +31,8 @@ const PAIRS: &[Pair] = &[
     (3, 11, NO_SUM, "(one r 0)\r"),
     (3, 12, &[Held], "(undo 4096)\r"),
     (3, 13, &[Full], "(ccz 1 1 1)\r"),
+    (3, 14, NO_SUM, "(layer (ccz 1 1 1) (ccz 1 2 2))\r"),
+    (3, 14, NO_SUM, "(layer (cnot r 1 2) (CNOT r 1 2))"),
     (4, 5, ANY, "(layer (cz (r 1) (r 2)) (ccz 1 1))"),
     (4, 5, ANY, "(layer (ccz 01 1 1) (cz (r 1) (r 2)))"),
     (4, 5, ANY, "(layer (cz (r 1) (r 2)) (undo 1))"),
@@ -54,13 +57,21 @@ const PAIRS: &[Pair] = &[
     (4, 11, NO_SUM, "(one x 0)"),
     (4, 11, NO_SUM, "(one r 0 000)"),
     (4, 12, &[Held], "(undo 0999)"),
-    (4, 13, &[Full], "(layer (ccz 1 1 1) (ccz 1 1 1) )"),
+    (4, 13, &[Full], "(layer (ccz 1 1 1) (ccz 2 2 2) )"),
+    (4, 14, NO_SUM, "(layer (ccz 1 1 1) (ccz 1 2 2) )"),
+    (4, 14, NO_SUM, "(layer (ccz 1 1 1) (ccz 1 2 2)"),
+    (4, 14, NO_SUM, "(layer (ccz 1 1 1) (ccz 1 2 2) (ccz 2 2))"),
+    (4, 14, NO_SUM, "(layer (undo 1) (ccz 1 1 1) (ccz 1 2 2))"),
     (5, 6, &[Fresh], "(cz (r 1) (r 2))"),
     (5, 7, SUM, "(cz (r 1) (r 2))"),
     (5, 9, NO_SUM, "(cz (r 3) (r 0))"),
     (5, 9, NO_SUM, "(layer (ccz 3 1 1) (cz (b 1) (b 2)))"),
     (5, 10, NO_SUM, "(layer (cnot r 1 1) (cz (b 1) (b 2)))"),
     (5, 13, &[Full], "(cz (g 1) (g 2))"),
+    (5, 14, NO_SUM, "(layer (cz (r 1) (r 1)))"),
+    (5, 14, NO_SUM, "(layer (cz (b 1) (b 2)) (ccz 1 1 1) (ccz 1 2 2))"),
+    (5, 14, NO_SUM, "(layer (ccz 1 1 1) (cz (b 1) (b 2)) (ccz 1 2 2))"),
+    (5, 14, NO_SUM, "(layer (ccz 1 1 1) (ccz 1 2 2) (cz (g 1) (g 1)))"),
     (6, 8, &[Fresh], "(step 1)"),
     (6, 8, &[Fresh], "(drop)"),
     (6, 9, &[Fresh], "(step 0)"),
@@ -76,6 +87,8 @@ const PAIRS: &[Pair] = &[
     (6, 11, &[Fresh], "(part b 0 00)"),
     (6, 11, &[Fresh], "(one b 00000000000000000)"),
     (6, 12, &[Fresh], "(undo 1)"),
+    (6, 14, &[Fresh], "(layer (ccz 1 1 1) (ccz 1 2 2))"),
+    (6, 14, &[Fresh], "(layer (cnot r 16 1) (cnot r 16 1))"),
     (7, 9, SUM, "(circuit 0)"),
     (7, 9, SUM, "(circuit 17)"),
     (7, 9, SUM, "(ccz 0 1 1)"),
@@ -92,7 +105,10 @@ const PAIRS: &[Pair] = &[
     (7, 12, &[Open, OneOpen], "(undo 2)"),
     (7, 12, &[Open, OneOpen], "(undo 4096)"),
     (7, 13, &[FullOpen], "(ccz 1 1 1)"),
-    (7, 13, &[FullOpen], "(layer (ccz 1 1 1) (cnot r 1 2))"),
+    (7, 13, &[FullOpen], "(layer (ccz 1 1 1) (ccz 2 2 2))"),
+    (7, 14, SUM, "(layer (ccz 1 1 1) (ccz 1 2 2))"),
+    (7, 14, SUM, "(layer (cz (r 1) (b 1)) (cnot b 2 1))"),
+    (7, 14, SUM, "(layer (cnot g 1 2) (cnot g 1 2))"),
     (8, 9, NO_SUM, "(step 0)"),
     (8, 9, NO_SUM, "(step 65537)"),
     (8, 9, NO_SUM, "(step 99999999999999999999999)"),
@@ -104,34 +120,82 @@ const PAIRS: &[Pair] = &[
     (9, 12, NO_SUM, "(undo 4097)"),
     (9, 12, NO_SUM, "(undo 99999999999999999999999)"),
     (9, 13, &[Full], "(ccz 1 1 3)"),
-    (9, 13, &[Full], "(layer (ccz 1 1 1) (cz (r 1) (g 0)))"),
+    (9, 13, &[Full], "(layer (ccz 1 1 1) (cz (r 2) (g 0)))"),
+    (9, 14, NO_SUM, "(layer (ccz 3 1 1) (ccz 1 2 2) (ccz 1 1 2))"),
+    (9, 14, NO_SUM, "(layer (ccz 1 1 1) (ccz 2 2 0) (ccz 1 2 2))"),
+    (9, 14, NO_SUM, "(layer (ccz 1 1 1) (ccz 1 2 2) (cnot g 3 1))"),
+    (9, 14, NO_SUM, "(layer (ccz 1 1 1) (cz (r 1) (b 3)))"),
+    (9, 14, NO_SUM, "(layer (cnot r 0 1) (cnot r 1 2))"),
+    (9, 14, NO_SUM, "(layer (ccz 3 1 1) (ccz 3 2 2))"),
+    (9, 14, NO_SUM, "(layer (cz (r 0) (b 1)) (cz (g 1) (r 0)))"),
+    (
+        9,
+        14,
+        NO_SUM,
+        "(layer (ccz 1 1 18446744073709551617) (ccz 2 2 18446744073709551617))",
+    ),
     (10, 13, &[Full], "(cnot r 2 2)"),
-    (10, 13, &[Full], "(layer (ccz 1 1 1) (cnot b 1 1))"),
+    (10, 13, &[Full], "(layer (ccz 1 1 1) (cnot b 2 2))"),
+    (10, 14, NO_SUM, "(layer (cnot r 2 2))"),
+    (10, 14, NO_SUM, "(layer (ccz 1 1 1) (cnot b 1 1))"),
+    (10, 14, NO_SUM, "(layer (cnot g 2 2) (ccz 1 1 1) (ccz 1 2 2))"),
+    (10, 14, NO_SUM, "(layer (ccz 1 1 1) (cnot g 2 2) (ccz 1 2 2))"),
+    (10, 14, NO_SUM, "(layer (ccz 1 1 1) (ccz 1 2 1) (cnot g 2 2))"),
+    (10, 14, NO_SUM, "(layer (cnot r 1 2) (cnot r 1 2) (cnot b 1 1))"),
+    (14, 13, &[Full], "(layer (ccz 1 1 1) (ccz 1 2 2))"),
+    (14, 13, &[Full], "(layer (cz (r 2) (g 1)) (cnot g 1 2))"),
+    (14, 13, &[Full], "(layer (cnot b 1 2) (cnot b 2 1))"),
 ];
+
+/// A layer of so many gates, all the same but one.
+fn with(count: usize, gate: Gate, place: usize) -> String {
+    let mut gates = vec![GATE; count];
+    gates[place] = gate;
+    layer(&gates)
+}
 
 /// Layers of 49 gates, one of them also refused by another number.
 fn too_many_gates() -> Vec<Refused> {
-    let with = |gate: Gate, place: usize| {
-        let mut gates = [GATE; 49];
-        gates[place] = gate;
-        layer(&gates)
-    };
-    let onto_itself = Gate::Cnot {
-        colour: Red,
-        control: 1,
-        target: 1,
-    };
+    let onto_itself = cnot(Red, 1, 1);
     let mut lines = Vec::new();
     for place in [0, 24, 47, 48] {
-        let twice = with(cz(Red, 1, Red, 2), place);
+        let twice = with(49, cz(Red, 1, Red, 2), place);
         lines.push(refused(twice, ANY, 5, "over 9, 49 gates"));
-        lines.push(refused(with(onto_itself, place), NO_SUM, 9, "over 10, 49 gates"));
-        let malformed = with(onto_itself, place).replace("(cnot r 1 1)", "(cnot r 1)");
+        lines.push(refused(with(49, onto_itself, place), NO_SUM, 9, "over 10, 49 gates"));
+        let malformed = with(49, onto_itself, place).replace("(cnot r 1 1)", "(cnot r 1)");
         lines.push(refused(malformed, ANY, 4, "over 9, 49 gates"));
     }
     lines.push(refused(layer(&[GATE; 49]), &[Fresh], 6, "over 9, 49 gates"));
     lines.push(refused(layer(&[GATE; 49]), SUM, 7, "over 9, 49 gates"));
     lines.push(refused(layer(&[GATE; 49]), &[Full], 9, "over 13, 49 gates"));
+    lines.push(refused(layer(&[GATE; 49]), &[Held], 9, "over 14, 49 gates"));
+    lines
+}
+
+/// Layers of 48 gates, which touch a position many times, one of them also refused by another number.
+fn most_gates() -> Vec<Refused> {
+    let mut lines = Vec::new();
+    for place in [0, 24, 47] {
+        let twice = with(48, cz(Red, 1, Red, 2), place);
+        let malformed = twice.replace("(cz (r 1) (r 2))", "(cz (r 1))");
+        lines.push(refused(malformed, ANY, 4, "over 14, 48 gates"));
+        lines.push(refused(twice, ANY, 5, "over 14, 48 gates"));
+        lines.push(refused(
+            with(48, cnot(Red, 1, 3), place),
+            NO_SUM,
+            9,
+            "over 14, 48 gates",
+        ));
+        lines.push(refused(
+            with(48, cnot(Red, 1, 1), place),
+            NO_SUM,
+            10,
+            "over 14, 48 gates",
+        ));
+    }
+    lines.push(refused(layer(&[GATE; 48]), &[Fresh], 6, "over 14, 48 gates"));
+    lines.push(refused(layer(&[GATE; 48]), SUM, 7, "over 14, 48 gates"));
+    lines.push(refused(layer(&[GATE; 48]), &[Full], 14, "over 13, 48 gates"));
     lines
 }
 
@@ -155,6 +219,8 @@ fn too_long() -> Vec<Refused> {
         refused(format!("(one r {zeros})"), SUM, 2, "over 7"),
         refused(format!("(undo {ones})"), &[Held], 2, "over 12"),
         refused(layer(&[GATE; 90]), &[Full], 2, "over 13"),
+        refused(layer(&[GATE; 90]), &[Held], 2, "over 14"),
+        refused(format!("(layer (ccz 1 1 1) (ccz 1 2 {ones}))"), NO_SUM, 2, "over 14"),
     ]
 }
 
@@ -162,6 +228,7 @@ pub fn table() -> Vec<Refused> {
     let pair = |&(number, over, moments, line): &Pair| refused(line, moments, number, &format!("over {over}"));
     let mut lines: Vec<Refused> = PAIRS.iter().map(pair).collect();
     lines.extend(too_many_gates());
+    lines.extend(most_gates());
     lines.extend(too_long());
     lines
 }

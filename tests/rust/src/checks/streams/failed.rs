@@ -8,7 +8,7 @@ use std::os::unix::process::ExitStatusExt;
 use std::process::Command;
 use waitfield_checks::circuits::every_term;
 use waitfield_checks::conversation::{Conversation, INPUT_FAILED, OUTPUT_FAILED, Stream};
-use waitfield_checks::gates::layer;
+use waitfield_checks::layers::{circuit, layers};
 use waitfield_checks::program::{Program, repository};
 use waitfield_checks::system::{BROKEN_PIPE, Terminal, ignoring_broken_pipe, without_stream};
 
@@ -70,8 +70,8 @@ fn reader_gone(command: Command) -> Result<Conversation, String> {
 /// A reader that goes while the program waits for room for the rest of a listing.
 fn reader_gone_in_listing(command: Command) -> Result<Conversation, String> {
     let mut talk = reading(Stream::input().map_err(failed)?, command)?;
-    let layers: Vec<String> = every_term(16).chunks(48).map(|gates| layer(gates) + "\n").collect();
-    talk.give(format!("(circuit 16)\n{}(terms)\n", layers.concat()).as_bytes())?;
+    let lines = circuit(16, &layers(&every_term(16)));
+    talk.give(format!("{}\n(terms)\n", lines.join("\n")).as_bytes())?;
     talk.take_lines(5)?;
     talk.close_output();
     Ok(talk)
