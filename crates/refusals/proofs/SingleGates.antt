@@ -16,7 +16,7 @@ use Rattle.refusals.specs.Refusals.{orElse, refusedIf, momentRefusal, wi
 use Rattle.refusals.proofs.RefusalLaws.{tried-in-turn}
 use Rattle.refusals.proofs.GateTests.{gate-by-tests}
 
--- No gate is refused.
+-- A line without gates is refused by none of the three.
 pub no-gates : (m : ℕ) → 0 ≡ gatesRefusal m []
 unfolding gatesRefusal orElse refusedIf allInRange anyOnItself touchedTwice layerTouches usedTwice
 no-gates m = refl

@@ -26,22 +26,21 @@ wrongLength m (Strings.One x) = notLong m x
 wrongLength m (Strings.Two x y) = notLong m x || notLong m y
 wrongLength m (Strings.Three x y z) = notLong m x || (notLong m y || notLong m z)
 
--- The gates that the code meets.
+-- The gates that the code meets, and how many they are said to be.
 unfoldable pub metGates : Gates → List ℕ → List Gate
 metGates Gates.None l = []
 metGates (Gates.One g) l = g ∷ []
 metGates (Gates.Layer n) l = gatesMet n l 6
 
--- The numbers of Operands that ask for gates: 9, 10 and 14, each over all gates before the next.
-unfoldable pub gatesRefusal : ℕ → List Gate → ℕ
-gatesRefusal m gs =
-    orElse (refusedIf (not (allInRange m gs)) 9) (orElse (refusedIf (anyOnItself gs) 10) (refusedIf (touchedTwice gs) 14))
-
--- How many they are said to be.
 unfoldable pub countOf : Gates → ℕ
 countOf Gates.None = 0
 countOf (Gates.One g) = 1
 countOf (Gates.Layer n) = n
+
+-- The numbers of Operands that ask for gates: 9, 10 and 14, each over all gates before the next.
+unfoldable pub gatesRefusal : ℕ → List Gate → ℕ
+gatesRefusal m gs =
+    orElse (refusedIf (not (allInRange m gs)) 9) (orElse (refusedIf (anyOnItself gs) 10) (refusedIf (touchedTwice gs) 14))
 
 -- What a held row tells of the form t that the line l spells.
 pub record Tells (l : List ℕ) (t : Typed) (r : HeldRow) : Type 0 where
