@@ -62,15 +62,28 @@ pub fn positions(m: usize) -> usize
     m
 }
 
-// The third colour beside two others: 3 less both.
+// The third colour beside two others, by the cases red-blue, red-green and blue-green, in either order of the two. Beside a colour twice it
+// is what 3 less both gives.
 pub fn third(a: Colour, b: Colour) -> Colour
     ensures { λ r. ⌜ r ≡ thirdOf a b ⌝ }
 {
-    let both = number_of(a) + number_of(b);
-    if 3 < both {
-        return colour_of(0);
+    match a {
+        Colour::Red => match b {
+            Colour::Blue => Colour::Green,
+            Colour::Green => Colour::Blue,
+            Colour::Red => Colour::Green,
+        },
+        Colour::Blue => match b {
+            Colour::Red => Colour::Green,
+            Colour::Green => Colour::Red,
+            Colour::Blue => Colour::Blue,
+        },
+        Colour::Green => match b {
+            Colour::Red => Colour::Blue,
+            Colour::Blue => Colour::Red,
+            Colour::Green => Colour::Red,
+        },
     }
-    colour_of(3 - both)
 }
 
 pub fn same_colour(a: Colour, b: Colour) -> bool
