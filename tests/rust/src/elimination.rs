@@ -238,9 +238,7 @@ pub fn totals(polynomial: &Polynomial, sliced: Colour, output: Strings) -> Total
 /// with a row for each position of the read colour and the third colour's bits as unknowns; its solutions are the
 /// settings whose form is zero once the string is added.
 pub fn one_colour(polynomial: &Polynomial, read: Colour, sliced: Colour, string: u32) -> u64 {
-    let [first, second] = read.others();
-    let unknown = if sliced == first { second } else { first };
     let mut output = [0; 3];
     output[read.number()] = string;
-    Slices::between(polynomial, sliced, [read, unknown], output).solutions()
+    Slices::between(polynomial, sliced, [read, read.third(sliced)], output).solutions()
 }

@@ -24,6 +24,18 @@ impl Colour {
             Colour::Green => [Colour::Red, Colour::Blue],
         }
     }
+
+    /// The third colour beside this one and another.
+    pub fn third(self, other: Colour) -> Colour {
+        let [first, second] = self.others();
+        if other == first { second } else { first }
+    }
+
+    /// Strings of the other two colours, in order: one of a colour named, and one of the third.
+    pub fn beside(self, named: Colour, string: u32, of_third: u32) -> [u32; 2] {
+        self.others()
+            .map(|colour| if colour == named { string } else { of_third })
+    }
 }
 
 impl fmt::Display for Colour {

@@ -1,7 +1,7 @@
 //! The signed sum S of document 01: every one of the 2^n basis strings is carried through the gates as source document
 //! 000 describes them. Nothing is known here of phase polynomials, slices or elimination.
 
-use crate::gates::{Colour, Gate, Spot, Strings, cz};
+use crate::gates::{COLOURS, Colour, Gate, Spot, Strings, cz};
 
 /// The sum over all basis strings of a circuit of m positions; meant for m up to 4, at most 6.
 pub struct FullSum {
@@ -138,9 +138,7 @@ impl FullSum {
         let spots: Vec<(usize, usize)> = places.map(|p| (p / self.m, p % self.m + 1)).collect();
         match spots[..] {
             [(0, red), (1, blue), (2, green)] => Some(Gate::Ccz { red, blue, green }),
-            [(0, i), (1, j)] => Some(cz(Colour::Red, i, Colour::Blue, j)),
-            [(0, i), (2, j)] => Some(cz(Colour::Red, i, Colour::Green, j)),
-            [(1, i), (2, j)] => Some(cz(Colour::Blue, i, Colour::Green, j)),
+            [(a, i), (b, j)] if a != b => Some(cz(COLOURS[a], i, COLOURS[b], j)),
             _ => None,
         }
     }

@@ -126,12 +126,7 @@ fn all_counts(program: &Program, m: usize, before: &str, read: Colour) -> Result
 /// The lines that ask for the readouts with one colour unread: for each string of the colour that is read, all strings
 /// of the third.
 fn readouts(m: usize, read: Colour, unread: Colour) -> Vec<String> {
-    let pair = |string: u32, other: u32| {
-        unread
-            .others()
-            .map(|colour| if colour == read { string } else { other })
-    };
-    let lines = |string: u32| (0..1 << m).map(move |other| part(m, unread, pair(string, other)));
+    let lines = |string: u32| (0..1 << m).map(move |third| part(m, unread, unread.beside(read, string, third)));
     (0..1 << m).flat_map(lines).collect()
 }
 

@@ -22,6 +22,17 @@ fn strings(text: &str) -> Strings {
     words.try_into().expect("three strings")
 }
 
+/// "The third colour beside two others is 3 less both" (01).
+fn third_colours(checks: &mut Checks) {
+    for colour in COLOURS {
+        for other in colour.others() {
+            let name = format!("the third colour beside {colour} and {other}");
+            let number = 3 - (colour.number() + other.number());
+            checks.tally.equal(&name, colour.third(other).number(), number);
+        }
+    }
+}
+
 fn known(checks: &mut Checks) {
     for known in known_sums() {
         let full = FullSum::of(known.m, &known.gates);
@@ -106,12 +117,7 @@ fn agreement(random: &mut Random, m: usize) -> Result<(), String> {
 /// The sums of T over the strings of the third colour, for each string of the one colour that is read.
 fn sums_of_readouts(full: &FullSum, m: usize, read: Colour, unread: Colour) -> Option<Vec<u64>> {
     let sum = |string: u32| {
-        let readout = |other: u32| {
-            let strings = unread
-                .others()
-                .map(|colour| if colour == read { string } else { other });
-            full.readout(unread, strings)
-        };
+        let readout = |third: u32| full.readout(unread, unread.beside(read, string, third));
         (0..1 << m).map(readout).sum()
     };
     (0..1 << m).map(sum).collect()
@@ -159,6 +165,7 @@ fn one_colour_agreement(random: &mut Random, m: usize) -> Result<(), String> {
 }
 
 pub fn check(checks: &mut Checks) {
+    third_colours(checks);
     known(checks);
     known_one_colour(checks);
     for seed in checks.seeds.clone() {
