@@ -196,8 +196,10 @@ applied-gatesOf (k ∷ l) f h =
     ∙ ⊕-assoc (f h) (sameTerm h k) (odd (occurrences h l))
     ∙ ap (λ b. f h ⊕ b) (ap (λ b. b ⊕ odd (occurrences h l)) (sym (odd-once (sameTerm h k))) ∙ sym (odd-add (once (sameTerm h k)) (occurrences h l)))
 
+pub polynomial-gatesOf : (l : List Term) (h : Term) → polynomial (gatesOf l) h ≡ odd (occurrences h l)
+unfolding polynomial empty
+polynomial-gatesOf l h = applied-gatesOf l empty h ∙ false-⊕ (odd (occurrences h l))
+
 -- The gates of a circuit's listing have the circuit's polynomial.
 pub listing-polynomial : (m : ℕ) (gs : List Gate) → areGates m gs ≡ true → (h : Term) → polynomial (gatesOf (listing m (polynomial gs))) h ≡ polynomial gs h
-unfolding polynomial empty
-listing-polynomial m gs e h =
-    applied-gatesOf (listing m (polynomial gs)) empty h ∙ false-⊕ (odd (occurrences h (listing m (polynomial gs)))) ∙ ap odd (listing-once m gs e h) ∙ odd-once (polynomial gs h)
+listing-polynomial m gs e h = polynomial-gatesOf (listing m (polynomial gs)) h ∙ ap odd (listing-once m gs e h) ∙ odd-once (polynomial gs h)

@@ -4,3 +4,6 @@ pub mod Cells
 pub mod TermGates
 pub mod EveryTermOnce
 pub mod MorePositions
+pub mod Comparison
+pub mod ListingInOrder
+pub mod OrderFixes

@@ -1,4 +1,4 @@
--- The listing of a polynomial (Manual 6.2): its terms, each once, in a fixed order.
+-- The listing of a polynomial (Manual 6.2): its terms, each once, in order.
 use mathlib.Core.Bool.{cond}
 use mathlib.Core.List.{List, [], _∷_, _++_}
 use Prim.Native.Nat.{ℕ, zero, suc, _+_}

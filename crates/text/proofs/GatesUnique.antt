@@ -1,8 +1,9 @@
 -- Writing a gate is one to one: the gate is found in its bytes, item by item.
-use Prim.Native.Nat.{ℕ}
+use Prim.Native.Nat.{ℕ, _≤_}
+use native.Mathlib.Omega.{arith}
 use mathlib.Core.Path.{_≡_, refl, ap, sym, _∙_}
 use mathlib.Core.List.{List, [], _++_, append-nil, append-cancel-left}
-use lib.ListN.{drop}
+use lib.ListN.{length, drop}
 use Rattle.circuit.specs.declared.Colour.{Colour}
 use Rattle.circuit.specs.declared.Colour.the-variants.{Red, Blue, Green}
 use Rattle.circuit.specs.declared.Spot.{Spot}
@@ -44,3 +45,10 @@ one-gate g h a b e =
 
 pub gates-unique : (g h : Gate) → spelledGate g ≡ spelledGate h → g ≡ h
 gates-unique g h e = sym (gate-of-line g) ∙ ap gateOf e ∙ gate-of-line h
+
+-- No gate is written in no bytes.
+pub spelled-some : (g : Gate) → 1 ≤ length (spelledGate g)
+unfolding spelledGate
+spelled-some (Ccz i j k) = omega arith
+spelled-some (Cz p q) = omega arith
+spelled-some (Cnot C c t) = omega arith

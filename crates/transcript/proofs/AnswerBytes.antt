@@ -13,7 +13,7 @@ use Rattle.answers.specs.Answers.{bytesOf}
 use Rattle.turns.specs.Turns.{turnOf}
 use Rattle.engine.specs.Engine.{Engine}
 use Rattle.engine.specs.Calls.{answering, skipped, response}
-use Rattle.transcript.proofs.LaterLines.{spelled-some}
+use Rattle.text.proofs.GatesUnique.{spelled-some}
 
 bytes-some : (a : Answer) → 1 ≤ length (bytesOf a)
 unfolding bytesOf

@@ -1,5 +1,6 @@
 -- The later lines of an answer are those that fetches give by number from 1 on, and they are at most as many as there are terms.
 use Prim.Native.Nat.{ℕ, zero, suc, _*_, _≤_, _<_}
+use native.Mathlib.Numerals.{add-one}
 use native.Mathlib.Omega.{arith}
 use mathlib.Core.Path.{_≡_, refl, ap, _∙_}
 use mathlib.Core.Bool.{Bool, true, false, cond}
@@ -8,13 +9,15 @@ use lib.ListN.{length, getD, length-append, length-map}
 use Rattle.circuit.specs.declared.Colour.{Colour}
 use Rattle.circuit.specs.declared.Colour.the-variants.{Red, Blue, Green}
 use Rattle.circuit.specs.declared.Gate.{Gate}
-use Rattle.circuit.specs.declared.Gate.the-variants.{Ccz, Cz, Cnot}
 use Rattle.circuit.specs.Polynomial.{Term, Polynomial, polynomial}
 use Rattle.listing.specs.Listing.{overPositions, triples, pairsBeside, everyTerm, among, listing, gatesOf as gatesIn, entryOf}
+use Rattle.listing.specs.Order.{comesBefore, isWritten}
 use Rattle.text.specs.Spelling.{spelledGate}
+use Rattle.text.proofs.GatesUnique.{spelled-some}
 use Rattle.answers.specs.Answers.{bytesOf}
 use Rattle.engine.specs.Engine.{Engine}
 use Rattle.engine.specs.Calls.{entryBytes, lineNumbered, laterLine, fetchedBytes}
+use Rattle.engine.proofs.TermsListed.{fetched-written, fetched-rising}
 use Rattle.transcript.specs.Session.{laterLines}
 
 -- ---- by number
@@ -36,13 +39,15 @@ line-fetched e n = go (e .listed)
     go true = entry-line terms n
     go false = refl
 
--- ---- none of them is empty
+-- ---- they are in order (Manual 6.2)
 
-pub spelled-some : (g : Gate) → 1 ≤ length (spelledGate g)
-unfolding spelledGate
-spelled-some (Ccz i j k) = omega arith
-spelled-some (Cz p q) = omega arith
-spelled-some (Cnot C c t) = omega arith
+pub lines-written : (e : Engine) (n : ℕ) (g : Gate) → getD (laterLines e) n [] ≡ spelledGate g → isWritten g ≡ true
+lines-written e n g p = fetched-written e (suc n) 64 g (line-fetched e n ∙ p)
+
+pub lines-rising : (e : Engine) (n : ℕ) (g h : Gate) → getD (laterLines e) n [] ≡ spelledGate g → getD (laterLines e) (suc n) [] ≡ spelledGate h → comesBefore g h ≡ true
+lines-rising e n g h p q = fetched-rising e (suc n) 64 64 g h (line-fetched e n ∙ p) (ap (λ (k : ℕ). fetchedBytes e k 64) (add-one (suc n)) ∙ line-fetched e (suc n) ∙ q)
+
+-- ---- none of them is empty
 
 some-spelled : (gs : List Gate) (n : ℕ) → n < length (map spelledGate gs) → 1 ≤ length (getD (map spelledGate gs) n [])
 some-spelled [] n h = absurd (omega arith)
