@@ -1,5 +1,6 @@
 //! Colours, gates and strings in the words of document 01, and their spelling in a line.
 
+use std::cmp::Reverse;
 use std::fmt;
 
 #[derive(Clone, Copy, PartialEq, Eq, PartialOrd, Ord, Debug)]
@@ -61,7 +62,7 @@ impl fmt::Display for Spot {
     }
 }
 
-#[derive(Clone, Copy, PartialEq, Eq, PartialOrd, Ord, Debug)]
+#[derive(Clone, Copy, PartialEq, Eq, Debug)]
 pub enum Gate {
     Ccz {
         red: usize,
@@ -109,6 +110,33 @@ impl Gate {
                 target,
             } => cnot(colour, to(spot(colour, control)), to(spot(colour, target))),
         }
+    }
+
+    /// The same gate, a CZ with its two positions in the other order.
+    pub fn turned(self) -> Gate {
+        match self {
+            Gate::Cz(first, second) => Gate::Cz(second, first),
+            _ => self,
+        }
+    }
+
+    /// The term of a CCZ or CZ as it is listed: "colours written in the order r, b, g" (02, request d).
+    pub fn listed(self) -> Gate {
+        match self {
+            Gate::Cz(first, second) if second.colour < first.colour => self.turned(),
+            _ => self,
+        }
+    }
+
+    /// What a term is placed by in a listing, compared from the left (02, request d): its kind, CCZ with three
+    /// positions before CZ with two; its colours as listed, which puts CZ in the order red-blue, red-green, blue-green;
+    /// its positions as listed.
+    pub fn listing_key(self) -> impl Ord {
+        let spots = self.listed().spots();
+        let kind = Reverse(spots.len());
+        let colours: Vec<Colour> = spots.iter().map(|spot| spot.colour).collect();
+        let positions: Vec<usize> = spots.iter().map(|spot| spot.position).collect();
+        (kind, colours, positions)
     }
 }
 

@@ -2,7 +2,7 @@
 
 use std::fs;
 use std::io;
-use waitfield_checks::model::Model;
+use waitfield_checks::model::{Answer, Model};
 use waitfield_checks::program::repository;
 use waitfield_checks::worked::{NAMES, generated};
 
@@ -13,11 +13,8 @@ fn main() -> io::Result<()> {
     }
     for name in NAMES {
         let path = folder.join(name);
-        let mut output = String::new();
-        for answer in Model::session(&fs::read(path.with_extension("in"))?) {
-            output += &format!("{}\n", answer.first);
-            answer.later.iter().for_each(|line| output += &format!("{line}\n"));
-        }
+        let answers = Model::session(&fs::read(path.with_extension("in"))?);
+        let output: String = answers.iter().map(Answer::to_string).collect();
         fs::write(path.with_extension("out"), output)?;
     }
     Ok(())

@@ -6,6 +6,7 @@ use crate::forms::Form;
 use crate::gates::{Colour, Gate, Strings, added, word};
 use crate::layers::touches_twice;
 use crate::reference::FullSum;
+use std::fmt;
 
 /// Gates that the history of `session` holds.
 pub const HISTORY: usize = 4096;
@@ -14,21 +15,19 @@ pub const HISTORY: usize = 4096;
 const FULL_SUM: usize = 4;
 
 /// An answer: its first line and the later ones.
-#[derive(Clone, Debug)]
+#[derive(Clone, PartialEq, Debug)]
 pub struct Answer {
     pub first: String,
     pub later: Vec<String>,
 }
 
-/// The order of `terms` is left open, so later lines are compared in rising order.
-impl PartialEq for Answer {
-    fn eq(&self, other: &Answer) -> bool {
-        let sorted = |lines: &[String]| {
-            let mut lines = lines.to_vec();
-            lines.sort();
-            lines
-        };
-        self.first == other.first && sorted(&self.later) == sorted(&other.later)
+impl Answer {
+    /// The terms listed as they are given, in the order in which they are given.
+    pub fn of_terms(terms: &[Gate]) -> Answer {
+        Answer {
+            first: format!("(terms {})", terms.len()),
+            later: terms.iter().map(Gate::to_string).collect(),
+        }
     }
 }
 
@@ -39,12 +38,19 @@ impl From<String> for Answer {
     }
 }
 
-/// The answer to `terms`.
-pub fn listing(terms: &[Gate]) -> Answer {
-    Answer {
-        first: format!("(terms {})", terms.len()),
-        later: terms.iter().map(Gate::to_string).collect(),
+/// The bytes of the answer.
+impl fmt::Display for Answer {
+    fn fmt(&self, f: &mut fmt::Formatter) -> fmt::Result {
+        writeln!(f, "{}", self.first)?;
+        self.later.iter().try_for_each(|line| writeln!(f, "{line}"))
     }
+}
+
+/// The answer to `terms`, for terms in any order: they are listed in that of document 02, request d.
+pub fn listing(terms: &[Gate]) -> Answer {
+    let mut terms: Vec<Gate> = terms.iter().map(|term| term.listed()).collect();
+    terms.sort_by_cached_key(|term| term.listing_key());
+    Answer::of_terms(&terms)
 }
 
 #[derive(Clone)]

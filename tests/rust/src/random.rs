@@ -53,6 +53,11 @@ impl Random {
         cz(first, self.position(m), second, self.position(m))
     }
 
+    /// The gate, a CZ with its colours in either order.
+    pub fn either_way(&mut self, gate: Gate) -> Gate {
+        if self.once_in(2) { gate.turned() } else { gate }
+    }
+
     pub fn ccz(&mut self, m: usize) -> Gate {
         Gate::Ccz {
             red: self.position(m),

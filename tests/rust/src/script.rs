@@ -1,7 +1,5 @@
 //! Lines for the program with the answers that are expected, and the count of the checks made on them.
 
-use crate::forms::Form;
-use crate::gates::Gate;
 use crate::model::{Answer, Model};
 use crate::program::Program;
 
@@ -147,18 +145,26 @@ impl Expected {
         let Some(found) = found else {
             return Err(format!("{line} had no answer, expected {}", self.answer.first));
         };
-        let more = |terms: &Answer, other: &Answer| {
-            let mut only = terms.later.iter().filter(|term| !other.later.contains(term));
-            only.next().cloned().unwrap_or_default()
-        };
         Err(format!(
-            "{line} was answered {} {}, expected {} {}",
+            "{line} was answered {}, expected {}{}",
             shown(found.first.as_bytes()),
-            more(&found, &self.answer),
             self.answer.first,
-            more(&self.answer, &found)
+            difference(&found.later, &self.answer.later)
         ))
     }
+}
+
+/// The first line at which two listings differ, counted from 1 behind `(terms N)`; nothing if they are the same.
+fn difference(found: &[String], expected: &[String]) -> String {
+    let longer = found.len().max(expected.len());
+    let Some(place) = (0..longer).find(|&place| found.get(place) != expected.get(place)) else {
+        return String::new();
+    };
+    let [found, expected] = [found, expected].map(|lines| match lines.get(place) {
+        Some(line) => shown(line.as_bytes()),
+        None => "nothing".into(),
+    });
+    format!("; line {} of the listing {found}, expected {expected}", place + 1)
 }
 
 /// Bytes for a message: escaped, the middle of long ones left out.
@@ -179,16 +185,8 @@ pub fn answers(output: &[u8]) -> (Vec<Answer>, Vec<u8>) {
     while let Some(first) = lines.next() {
         let count = first.strip_prefix("(terms ").and_then(|n| n.strip_suffix(')'));
         let count = count.and_then(|n| n.parse().ok()).unwrap_or(0);
-        let later = lines.by_ref().take(count).map(ordered).collect();
+        let later = lines.by_ref().take(count).collect();
         answers.push(Answer { first, later });
     }
     (answers, rest)
-}
-
-/// A listed `cz` with its colours in order r, b, g, as their order is left open.
-fn ordered(term: String) -> String {
-    match Form::read(&term) {
-        Some(Form::Gate(Gate::Cz(first, second))) if second < first => Gate::Cz(second, first).to_string(),
-        _ => term,
-    }
 }

@@ -1,10 +1,18 @@
-//! The worked examples in the folder examples/. Four inputs are written by hand, two are made here.
+//! The worked examples in the folder examples/. Five inputs are written by hand, two are made here.
 
 use crate::circuits::{full_rank, hypercube};
 use crate::gates::{COLOURS, Colour, Strings, spelled};
 use crate::layers::circuit;
 
-pub const NAMES: [&str; 6] = ["handover", "hypercube", "layers", "one-colour", "readout", "session"];
+pub const NAMES: [&str; 7] = [
+    "handover",
+    "hypercube",
+    "layers",
+    "one-colour",
+    "readout",
+    "session",
+    "terms",
+];
 
 /// Positions of a colour in the made examples: 48 qubits.
 const M: usize = 16;

@@ -5,9 +5,8 @@ use std::fs;
 use std::path::PathBuf;
 use waitfield_checks::forms::Form;
 use waitfield_checks::layers::touches_twice;
-use waitfield_checks::model::Model;
+use waitfield_checks::model::{Answer, Model};
 use waitfield_checks::program::repository;
-use waitfield_checks::script::answers;
 use waitfield_checks::worked;
 
 /// The inputs in the folder, by name.
@@ -23,14 +22,13 @@ fn inputs() -> Result<Vec<PathBuf>, String> {
 }
 
 /// Whether every layer of an input can be fired.
-fn layers(input: &[u8]) -> Result<(), String> {
-    for line in input.split(|&byte| byte == b'\n') {
-        let text = String::from_utf8_lossy(line);
-        let Some(Form::Layer(gates)) = Form::read(&text) else {
+fn layers(input: &str) -> Result<(), String> {
+    for line in input.lines() {
+        let Some(Form::Layer(gates)) = Form::read(line) else {
             continue;
         };
         if touches_twice(&gates) {
-            return Err(format!("{text} touches a position twice"));
+            return Err(format!("{line} touches a position twice"));
         }
     }
     Ok(())
@@ -46,7 +44,7 @@ pub fn check(checks: &mut Checks) {
         .equal("examples in the folder", inputs.len(), worked::NAMES.len());
     for path in inputs {
         let name = path.display().to_string();
-        let read = |path: &PathBuf| fs::read(path).map_err(|error| format!("{}: {error}", path.display()));
+        let read = |path: &PathBuf| fs::read_to_string(path).map_err(|error| format!("{}: {error}", path.display()));
         let files = (read(&path), read(&path.with_extension("out")));
         let (input, expected) = match files {
             (Ok(input), Ok(expected)) => (input, expected),
@@ -55,15 +53,14 @@ pub fn check(checks: &mut Checks) {
                 continue;
             }
         };
-        let expected = answers(&expected);
         checks
             .tally
             .check(&format!("{name}: its layers can be fired"), layers(&input));
-        let model = (Model::session(&input), Vec::new());
-        checks
-            .tally
-            .equal(&format!("{name}: the model"), model, expected.clone());
-        let found = checks.program.run(&input).map(|output| answers(&output));
+        let answers = Model::session(input.as_bytes());
+        let model: String = answers.iter().map(Answer::to_string).collect();
+        checks.tally.equal(&format!("{name}: the model"), &model, &expected);
+        let found = checks.program.run(input.as_bytes());
+        let found = found.map(|output| String::from_utf8_lossy(&output).into_owned());
         checks.tally.equal(&name, found, Ok(expected));
     }
     for (name, text) in worked::generated() {

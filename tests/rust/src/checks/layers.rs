@@ -71,7 +71,9 @@ fn pair(script: &mut Script, m: usize, held: &[Gate], first: Gate, second: Gate)
     in_layers(script, held);
     script.say(layer(&[first, second]), answered(refused));
     if !refused {
-        gates.extend([first.min(second), first.max(second)]);
+        let mut taken = [first, second];
+        taken.sort_by_key(Gate::to_string);
+        gates.extend(taken);
     }
     seen(script, m, &gates);
     script.say(format!("(undo {})", gates.len()), "(ok)");
@@ -189,13 +191,12 @@ fn all_positions(checks: &mut Checks) {
     for (place, &gate) in gates.iter().enumerate() {
         let mut turned = gates.clone();
         turned[place] = match gate {
-            Gate::Cz(first, second) => Gate::Cz(second, first),
             Gate::Cnot {
                 colour,
                 control,
                 target,
             } => cnot(colour, target, control),
-            Gate::Ccz { .. } => gate,
+            _ => gate.turned(),
         };
         script.say(layer(&turned), "(ok)");
         script.say("(undo 24)", "(ok)");

@@ -10,6 +10,7 @@ mod history;
 mod known;
 mod large;
 mod layers;
+mod listings;
 mod middle;
 mod one_colour;
 mod own;
@@ -79,6 +80,7 @@ macro_rules! groups {
 groups! {
     "reference and model": own,
     "known sums and edges": known,
+    "listings": listings,
     "random circuits": circuits,
     "readout counts": readouts,
     "one colour read": one_colour,

@@ -3,13 +3,15 @@
 
 use crate::Checks;
 use crate::known::{LISTING, ONE_COLOUR, known_sums};
+use crate::listings::every_term;
 use std::fmt::Debug;
 use waitfield_checks::elimination::{Polynomial, one_colour, totals};
 use waitfield_checks::gates::{COLOURS, Colour, Gate, Spot, Strings, word};
 use waitfield_checks::layers::{layers, touches_twice};
-use waitfield_checks::model::Model;
+use waitfield_checks::model::{Answer, Model, listing};
 use waitfield_checks::random::Random;
 use waitfield_checks::reference::{FullSum, joined};
+use waitfield_checks::script::{Expected, answers};
 
 /// Circuits for a seed at each m. The full sum at m = 5 and 6 takes its time.
 const CIRCUITS: [(usize, usize); 6] = [(1, 25), (2, 25), (3, 25), (4, 25), (5, 10), (6, 2)];
@@ -62,6 +64,55 @@ fn known_one_colour(checks: &mut Checks) {
     }
 }
 
+/// The answer to `(terms)` with these terms in this order.
+fn listed_as(terms: &[Gate]) -> Expected {
+    Expected {
+        line: b"(terms)".to_vec(),
+        answer: Answer::of_terms(terms),
+    }
+}
+
+/// The order of a listing against the loops of document 02's sentence.
+fn order_of_terms(checks: &mut Checks, random: &mut Random, seed: u64) {
+    for m in [1, 2, 3, 16] {
+        let terms = every_term(m);
+        let shuffled = random.shuffled(&terms).into_iter();
+        let given: Vec<Gate> = shuffled.map(|term| random.either_way(term)).collect();
+        let name = format!("every term listed in order, seed {seed}, m = {m}");
+        checks
+            .tally
+            .check(&name, listed_as(&terms).compare(Some(listing(&given))));
+    }
+}
+
+/// Output with two lines of a listing exchanged, or a CZ turned, is another answer; the message has the first line that
+/// differs.
+fn lines_in_order(checks: &mut Checks) {
+    let terms = every_term(2);
+    let mut differs = |place: usize, changed: &[Gate]| {
+        let (line, found, term) = (place + 1, changed[place], terms[place]);
+        let name = format!("a listing that differs from line {line} on");
+        let message = format!(
+            "(terms) was answered (terms 20), expected (terms 20); line {line} of the listing {found}, expected {term}"
+        );
+        let output = Answer::of_terms(changed).to_string();
+        let (answers, _) = answers(output.as_bytes());
+        let outcome = listed_as(&terms).compare(answers.into_iter().next());
+        checks.tally.equal(&name, outcome, Err(message));
+    };
+    for place in 0..terms.len() - 1 {
+        let mut exchanged = terms.clone();
+        exchanged.swap(place, place + 1);
+        differs(place, &exchanged);
+    }
+    // Eight CCZ terms stand before the CZ terms.
+    for (place, term) in terms.iter().enumerate().skip(8) {
+        let mut turned = terms.clone();
+        turned[place] = term.turned();
+        differs(place, &turned);
+    }
+}
+
 /// Whether two gates of a list touch the same position, or one of them touches one twice: place by place, without a
 /// set.
 fn any_shared(gates: &[Gate]) -> bool {
@@ -89,13 +140,13 @@ fn agreement(random: &mut Random, m: usize) -> Result<(), String> {
     let gates = random.gates(m, count);
     let full = FullSum::of(m, &gates);
     let polynomial = Polynomial::of(m, &gates);
-    let mut terms = full.terms().ok_or("a term of another kind")?;
-    let mut expanded = polynomial.terms();
-    terms.sort();
-    expanded.sort();
-    if terms != expanded {
-        return Err(format!("terms {terms:?} and {expanded:?} after {gates:?}"));
-    }
+    let terms = full.terms().ok_or("a term of another kind")?;
+    same(
+        "terms in full and by expansion",
+        listing(&terms),
+        listing(&polynomial.terms()),
+    )
+    .map_err(|difference| format!("{difference} after {gates:?}"))?;
     for _ in 0..4 {
         let output = random.strings(m);
         for colour in COLOURS {
@@ -168,7 +219,9 @@ pub fn check(checks: &mut Checks) {
     third_colours(checks);
     known(checks);
     known_one_colour(checks);
+    lines_in_order(checks);
     for seed in checks.seeds.clone() {
+        order_of_terms(checks, &mut Random::new(seed), seed);
         let mut random = Random::new(seed);
         for m in 1..=16 {
             let name = format!("gates cut into layers, seed {seed}, m = {m}");
