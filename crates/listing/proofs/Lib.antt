@@ -1,6 +1,7 @@
 pub mod Concat
 pub mod Entries
 pub mod Cells
+pub mod Each
 pub mod TermGates
 pub mod EveryTermOnce
 pub mod MorePositions

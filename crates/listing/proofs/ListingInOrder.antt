@@ -15,35 +15,10 @@ use Rattle.circuit.specs.Colours.{numberOf, first, second, colours, join}
 use Rattle.circuit.specs.Polynomial.{Term, Polynomial, term}
 use Rattle.listing.specs.Listing.{overPositions, triples, pairsBeside, everyTerm, among, listing, gateOfTerm, gatesOf, entryOf}
 use Rattle.listing.specs.Order.{placedBy, lower, comesBefore, isWritten, beforeNext, inOrder}
+use Rattle.listing.proofs.Each.{line, Each, each-map, each-append, each-among}
 use Rattle.listing.proofs.Comparison.{lower-trans, lower-less, lower-behind, lower-front}
 
--- ---- something that is so for each term of a list
-
-abbrev pub Each : (Term → Type 0) → List Term → Type 0
-Each P [] = Unit {0}
-Each P (h ∷ l) = P h × Each P l
-
-pub each-map : (P Q : Term → Type 0) → ((h : Term) → P h → Q h) → (l : List Term) → Each P l → Each Q l
-each-map P Q f [] e = tt
-each-map P Q f (h ∷ l) e = (f h (e .0), each-map P Q f l (e .1))
-
-each-append : (P : Term → Type 0) (l k : List Term) → Each P l → Each P k → Each P (l ++ k)
-each-append P [] k a b = b
-each-append P (h ∷ l) k a b = (a .0, each-append P l k (a .1) b)
-
-each-among : (P : Term → Type 0) (f : Polynomial) (l : List Term) → Each P l → Each P (among f l)
-unfolding among
-each-among P f [] e = e
-each-among P f (h ∷ l) e = go (each-among P f l (e .1)) (f h)
-  where
-    go : Each P (among f l) → (b : Bool) → Each P (cond b (h ∷ among f l) (among f l))
-    go r true = (e .0, r)
-    go r false = r
-
 -- ---- each term before all that follow it
-
-abbrev pub line : Term → Gate
-line h = gateOfTerm (h .red) (h .blue) (h .green)
 
 abbrev Ahead : List Term → Term → Type 0
 Ahead l h = Each (λ k. comesBefore (line h) (line k) ≡ true) l

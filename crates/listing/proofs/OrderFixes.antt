@@ -19,10 +19,11 @@ use Rattle.circuit.proofs.Gates.{Valid, valid-of}
 use Rattle.circuit.proofs.PolynomialTerms.{same-term}
 use Rattle.listing.specs.Listing.{listing, occurrences, gateOfTerm, gatesOf}
 use Rattle.listing.specs.Order.{placedBy, comesBefore, isWritten, beforeNext, inOrder}
+use Rattle.listing.proofs.Each.{line, Each, each-map}
 use Rattle.listing.proofs.Comparison.{lower-trans, lower-self}
 use Rattle.listing.proofs.TermGates.{gate-without-red, gate-without-blue, gate-without-green, gate-of-three}
 use Rattle.listing.proofs.EveryTermOnce.{listing-once, polynomial-gatesOf}
-use Rattle.listing.proofs.ListingInOrder.{Each, each-map, line, Rising, listing-rising, in-order-first}
+use Rattle.listing.proofs.ListingInOrder.{Rising, listing-rising, in-order-first}
 
 -- ---- the comparison is an order
 

@@ -1,11 +1,9 @@
 -- The gate that a term is listed as: which one it is, that it adds just that term, and that it is a gate of the circuit.
 use mathlib.Core.Path.{_≡_, refl, ap, ap₂}
-use mathlib.Core.Bool.{Bool, true, false, cond, _&&_}
+use mathlib.Core.Bool.{true, _&&_}
 use mathlib.Core.List.{List, [], _∷_, _++_}
 use Prim.Native.Nat.{ℕ, zero, suc, _≤_}
 use native.Mathlib.Omega.{arith}
-use Rattle.gf2.proofs.Impossible.{never}
-use Rattle.gf2.proofs.Bits.{and-both}
 use Rattle.circuit.specs.declared.Colour.{Colour}
 use Rattle.circuit.specs.declared.Colour.the-variants.{Red, Blue, Green}
 use Rattle.circuit.specs.declared.Gate.{Gate}
@@ -14,8 +12,9 @@ use Rattle.listing.specs.declared.Entry.the-variants.{Listed}
 use Rattle.circuit.specs.Colours.{put, join, first, second}
 use Rattle.circuit.specs.Sum.{isGate, areGates}
 use Rattle.circuit.specs.Polynomial.{Term, Polynomial, term, pair, toggled, applied}
-use Rattle.listing.specs.Listing.{overPositions, triples, pairsBeside, everyTerm, among, listing, gateOfTerm, gatesOf, entryOf}
+use Rattle.listing.specs.Listing.{overPositions, triples, pairsBeside, everyTerm, listing, gateOfTerm, gatesOf, entryOf}
 use Rattle.circuit.proofs.PolynomialTerms.{IsTerm, position-true}
+use Rattle.listing.proofs.Each.{line, Each, each-map, each-append, each-among, each-over, each-entry}
 
 -- ---- by which indices are 0
 
@@ -54,9 +53,9 @@ applied-gateOfTerm (suc i) (suc j) (suc k) f = refl
 
 -- ---- it is a gate of the circuit
 
-pub isGate-gateOfTerm : (m : ℕ) (h : Term) → IsTerm m h → isGate m (gateOfTerm (h .red) (h .blue) (h .green)) ≡ true
+isGate-line : (m : ℕ) (h : Term) → IsTerm m h → isGate m (line h) ≡ true
 unfolding isGate gateOfTerm term
-isGate-gateOfTerm m h s = go (h .red) (h .blue) (h .green) s
+isGate-line m h s = go (h .red) (h .blue) (h .green) s
   where
     go : (i j k : ℕ) → IsTerm m (term i j k) → isGate m (gateOfTerm i j k) ≡ true
     go zero j k s = rw (position-true m j (omega arith) (omega arith), position-true m k (omega arith) (omega arith))
@@ -65,66 +64,38 @@ isGate-gateOfTerm m h s = go (h .red) (h .blue) (h .green) s
     go (suc i) (suc j) (suc k) s =
         rw (position-true m (suc i) (omega arith) (omega arith), position-true m (suc j) (omega arith) (omega arith), position-true m (suc k) (omega arith) (omega arith))
 
-gates-one : (m : ℕ) (h : Term) → IsTerm m h → areGates m (gatesOf (h ∷ [])) ≡ true
-unfolding gatesOf areGates
-gates-one m h s = ap (λ b. b && true) (isGate-gateOfTerm m h s)
-
-gates-append : (m : ℕ) (l k : List Term) → areGates m (gatesOf l) ≡ true → areGates m (gatesOf k) ≡ true → areGates m (gatesOf (l ++ k)) ≡ true
-unfolding gatesOf areGates
-gates-append m [] k p q = q
-gates-append m (h ∷ l) k p q =
-    let e = and-both (isGate m (gateOfTerm (h .red) (h .blue) (h .green))) (areGates m (gatesOf l)) p in
-    ap₂ _&&_ (e .0) (gates-append m l k (e .1) q)
-
-gates-over : (m n : ℕ) (g : ℕ → List Term) → ((i : ℕ) → 1 ≤ i → i ≤ n → areGates m (gatesOf (g i)) ≡ true) → areGates m (gatesOf (overPositions n g)) ≡ true
-unfolding overPositions gatesOf areGates
-gates-over m zero g e = refl
-gates-over m (suc n) g e = gates-append m (overPositions n g) (g (suc n)) (gates-over m n g (λ i a b. e i a (omega arith))) (e (suc n) (omega arith) (omega arith))
-
-pub everyTerm-gates : (m : ℕ) → areGates m (gatesOf (everyTerm m)) ≡ true
+everyTerm-terms : (m : ℕ) → Each (IsTerm m) (everyTerm m)
 unfolding everyTerm triples pairsBeside term join
-everyTerm-gates m =
-    gates-append m (triples m) (pairsBeside Green m ++ (pairsBeside Blue m ++ pairsBeside Red m))
-    (gates-over m m (λ i. overPositions m (λ j. overPositions m (λ k. term i j k ∷ [])))
-    (λ i a b. gates-over m m (λ j. overPositions m (λ k. term i j k ∷ []))
-    (λ j c d. gates-over m m (λ k. term i j k ∷ []) (λ k p q. gates-one m (term i j k) (omega arith)))))
-    (gates-append m (pairsBeside Green m) (pairsBeside Blue m ++ pairsBeside Red m) (pairs Green) (gates-append m (pairsBeside Blue m) (pairsBeside Red m) (pairs Blue) (pairs Red)))
+everyTerm-terms m =
+    each-append _ (triples m) (pairsBeside Green m ++ (pairsBeside Blue m ++ pairsBeside Red m))
+    (each-over _ m (λ i. overPositions m (λ j. overPositions m (λ k. term i j k ∷ [])))
+    (λ i a b. each-over _ m (λ j. overPositions m (λ k. term i j k ∷ []))
+    (λ j c d. each-over _ m (λ k. term i j k ∷ []) (λ k p q. (omega arith, tt)))))
+    (each-append _ (pairsBeside Green m) (pairsBeside Blue m ++ pairsBeside Red m) (pairs Green) (each-append _ (pairsBeside Blue m) (pairsBeside Red m) (pairs Blue) (pairs Red)))
   where
     is-term : (C : Colour) (i j : ℕ) → 1 ≤ i → i ≤ m → 1 ≤ j → j ≤ m → IsTerm m (join C 0 i j)
     is-term Red i j a b c d = omega arith
     is-term Blue i j a b c d = omega arith
     is-term Green i j a b c d = omega arith
 
-    pairs : (C : Colour) → areGates m (gatesOf (pairsBeside C m)) ≡ true
+    pairs : (C : Colour) → Each (IsTerm m) (pairsBeside C m)
     pairs C =
-        gates-over m m (λ i. overPositions m (λ j. join C 0 i j ∷ []))
-        (λ i a b. gates-over m m (λ j. join C 0 i j ∷ []) (λ j c d. gates-one m (join C 0 i j) (is-term C i j a b c d)))
+        each-over _ m (λ i. overPositions m (λ j. join C 0 i j ∷ []))
+        (λ i a b. each-over _ m (λ j. join C 0 i j ∷ []) (λ j c d. (is-term C i j a b c d, tt)))
 
-gates-among : (m : ℕ) (f : Polynomial) (l : List Term) → areGates m (gatesOf l) ≡ true → areGates m (gatesOf (among f l)) ≡ true
-unfolding gatesOf areGates among
-gates-among m f [] p = p
-gates-among m f (h ∷ l) p =
-    let e = and-both (isGate m (gateOfTerm (h .red) (h .blue) (h .green))) (areGates m (gatesOf l)) p in
-    go (e .0) (gates-among m f l (e .1)) (f h)
-  where
-    go : isGate m (gateOfTerm (h .red) (h .blue) (h .green)) ≡ true → areGates m (gatesOf (among f l)) ≡ true
-        → (b : Bool) → areGates m (gatesOf (cond b (h ∷ among f l) (among f l))) ≡ true
-    go e ih true = ap₂ _&&_ e ih
-    go e ih false = ih
+listing-terms : (m : ℕ) (f : Polynomial) → Each (IsTerm m) (listing m f)
+unfolding listing
+listing-terms m f = each-among _ f (everyTerm m) (everyTerm-terms m)
 
 -- The gates of a listing are gates of the circuit.
 pub listing-gates : (m : ℕ) (f : Polynomial) → areGates m (gatesOf (listing m f)) ≡ true
-unfolding listing
-listing-gates m f = gates-among m f (everyTerm m) (everyTerm-gates m)
+unfolding gatesOf areGates
+listing-gates m f = go (listing m f) (listing-terms m f)
+  where
+    go : (l : List Term) → Each (IsTerm m) l → areGates m (gatesOf l) ≡ true
+    go [] e = refl
+    go (h ∷ l) e = ap₂ _&&_ (isGate-line m h (e .0)) (go l (e .1))
 
 -- So is each that is listed.
 pub entry-gate : (m : ℕ) (f : Polynomial) (n : ℕ) (g : Gate) → entryOf (listing m f) n ≡ Listed g → isGate m g ≡ true
-unfolding entryOf gatesOf areGates
-entry-gate m f n g e = go (listing m f) n (listing-gates m f) e
-  where
-    go : (l : List Term) (n : ℕ) → areGates m (gatesOf l) ≡ true → entryOf l n ≡ Listed g → isGate m g ≡ true
-    go [] n p e = never (cc)
-    go (h ∷ l) zero p e =
-        let q : gateOfTerm (h .red) (h .blue) (h .green) ≡ g = cc in
-        rw q at (and-both (isGate m (gateOfTerm (h .red) (h .blue) (h .green))) (areGates m (gatesOf l)) p .0)
-    go (h ∷ l) (suc n) p e = go l n (and-both (isGate m (gateOfTerm (h .red) (h .blue) (h .green))) (areGates m (gatesOf l)) p .1) e
+entry-gate m f = each-entry (λ g. isGate m g ≡ true) (listing m f) (each-map _ _ (isGate-line m) (listing m f) (listing-terms m f))
