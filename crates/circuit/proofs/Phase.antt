@@ -14,7 +14,7 @@ use Rattle.circuit.specs.declared.Colour.the-variants.{Red, Blue, Green}
 use Rattle.circuit.specs.declared.Gate.{Gate}
 use Rattle.circuit.specs.declared.Gate.the-variants.{Ccz, Cz, Cnot}
 use Rattle.circuit.specs.Colours.{the, first, second, join, put}
-use Rattle.circuit.specs.Sum.{Basis, at, turned, replaced, turnsSign, leaves, Signed, carry, carryAll, unsigned, areGates}
+use Rattle.circuit.specs.Sum.{Basis, at, turned, replaced, turnsSign, leaves, Signed, carry, carryAll, areGates}
 use Rattle.circuit.specs.Polynomial.{Polynomial, substituted, term, pair, applied, appliedAll, empty, polynomial, product, value}
 use Rattle.circuit.proofs.Three.{join-parts}
 use Rattle.circuit.proofs.Gates.{Valid, AllValid, all-valid-of}
@@ -23,11 +23,18 @@ use Rattle.circuit.proofs.Value.{value-toggled, value-cnot, value-empty
 abbrev pub Sized : ℕ → Basis → Type 0
 Sized m x = (length (x .red) ≡ m) × (length (x .blue) ≡ m) × (length (x .green) ≡ m)
 
-sized-the : (C : Colour) (m : ℕ) (x : Basis) → Sized m x → length (the C x) ≡ m
+pub sized-the : (C : Colour) (m : ℕ) (x : Basis) → Sized m x → length (the C x) ≡ m
 unfolding the
 sized-the Red m x h = h .0
 sized-the Blue m x h = h .1
 sized-the Green m x h = h .2
+
+-- As seen from a colour: at most m bits for it and for each of the other two.
+pub parts-sized : (C : Colour) (m : ℕ) (t : Basis) → Sized m t → (length (the C t) ≤ m) × (length (first C t) ≤ m) × (length (second C t) ≤ m)
+unfolding the first second
+parts-sized Red m t h = (omega (arith, h .0), omega (arith, h .1), omega (arith, h .2))
+parts-sized Blue m t h = (omega (arith, h .1), omega (arith, h .0), omega (arith, h .2))
+parts-sized Green m t h = (omega (arith, h .2), omega (arith, h .0), omega (arith, h .1))
 
 sized-put : (C : Colour) (m : ℕ) (z : BitString) (x : Basis) → Sized m x → length z ≡ m → Sized m (put C z x)
 unfolding put join first second
@@ -103,6 +110,10 @@ phase-from m [] f q v s e = e
 phase-from m (g ∷ gs) f q v s e =
     phase-from m gs (applied g f) (carry g q) (v .1) (sized-leaves m g (q .string) s)
     (ap (λ w. w ⊕ turnsSign g (q .string)) e ∙ sym (phase-step m g f (q .string) (v .0) s))
+
+-- A string before the first gate, its sign plus.
+unfoldable pub unsigned : Basis → Signed
+unsigned y = record { sign = false; string = y }
 
 phase : (m : ℕ) (gs : List Gate) (y : Basis) → AllValid m gs → Sized m y → (carryAll gs (unsigned y)) .sign ≡ value m (polynomial gs) ((carryAll gs (unsigned y)) .string)
 unfolding polynomial unsigned

@@ -1,4 +1,4 @@
--- Gates, and the signed sum of a circuit (Manual 1.3 to 1.5; source document 000).
+-- Gates, and the signed sum of a circuit (Manual 1.3 to 1.6; source document 000).
 use mathlib.Core.Bool.{Bool, true, false, not, cond, _&&_}
 use mathlib.Core.List.{List, [], _∷_}
 use Prim.Native.Nat.{ℕ, zero, suc}
@@ -66,13 +66,13 @@ unfoldable pub carryAll : List Gate → Signed → Signed
 carryAll [] q = q
 carryAll (g ∷ gs) q = carryAll gs (carry g q)
 
--- A string before the first gate: its sign is plus.
-unfoldable pub unsigned : Basis → Signed
-unsigned y = record { sign = false; string = y }
-
 -- Do two basis strings share an odd number of ones?
 unfoldable pub dots : Basis → Basis → Bool
 dots s x = dot (s .red) (x .red) ⊕ (dot (s .blue) (x .blue) ⊕ dot (s .green) (x .green))
+
+-- A string before the first gate: the starting string t gives it its sign, turned where the two share an odd number of ones (Manual 1.6).
+unfoldable pub started : Basis → Basis → Signed
+started t y = record { sign = dots t y; string = y }
 
 -- What a carried string counts for s: plus or minus 1 by its sign, turned once more where the two share an odd number of ones.
 unfoldable pub counted : Basis → Signed → ℤ
@@ -82,6 +82,7 @@ counted s q = sgn (q .sign ⊕ dots s (q .string))
 unfoldable pub sumAll : ℕ → (Basis → ℤ) → ℤ
 sumAll m f = sum m (λ r. sum m (λ b. sum m (λ g. f (record { red = r; blue = b; green = g }))))
 
--- The signed sum S(s): what the 2^n strings y, n = 3m, count for s once they are carried through the gates. The amplitude is S(s) / 2^n.
-unfoldable pub signedSum : ℕ → List Gate → Basis → ℤ
-signedSum m gs s = sumAll m (λ y. counted s (carryAll gs (unsigned y)))
+-- The signed sum S(s) of the start t: what the 2^n strings y, n = 3m, count for s once each has its sign from t and is carried through the gates.
+-- The amplitude is S(s) / 2^n.
+unfoldable pub signedSum : ℕ → Basis → List Gate → Basis → ℤ
+signedSum m t gs s = sumAll m (λ y. counted s (carryAll gs (started t y)))
