@@ -6,5 +6,6 @@ pub mod Bounds
 pub mod Amplitude
 pub mod OneColour
 pub mod OneCount
+pub mod Starts
 pub mod OneByInner
 pub mod Known

@@ -1,7 +1,7 @@
--- The count N of one colour read: by the slices of either unread colour, by the readout counts, by the sums S, and over all its strings.
+-- The count N of one colour read, for every polynomial: by the slices of either unread colour, by the readout counts, by the polynomial's sums, and
+-- over all its strings.
 use mathlib.Core.Path.{_≡_, refl, sym, _∙_, ap}
 use mathlib.Core.Bool.{Bool, true, false, cond}
-use mathlib.Core.List.{List}
 use Prim.Native.Nat.{ℕ, zero, suc, _+_, _*_, _^_, _≤_}
 use native.Mathlib.Omega.{arith}
 use lib.ListN.{length}
@@ -13,11 +13,10 @@ use Rattle.gf2.proofs.Sums.{sum-cong, sum-ext, sum-mul}
 use Rattle.gf2.proofs.Parseval.{walsh, square, parseval}
 use Rattle.circuit.specs.declared.Colour.{Colour}
 use Rattle.circuit.specs.declared.Colour.the-variants.{Red, Blue, Green}
-use Rattle.circuit.specs.declared.Gate.{Gate}
 use Rattle.circuit.specs.Colours.{sameColour, first, second, colours, join}
-use Rattle.circuit.specs.Sum.{areGates, signedSum}
-use Rattle.circuit.specs.Polynomial.{Polynomial, polynomial}
+use Rattle.circuit.specs.Polynomial.{Polynomial}
 use Rattle.circuit.proofs.Colours.{second-other}
+use Rattle.circuit.proofs.SignedSum.{phaseSum}
 use Rattle.slices.specs.Rank.{tally}
 use Rattle.slices.specs.Totals.{share, readoutCount}
 use Rattle.slices.specs.OneColour.{leftOver, settles, oneCount, oneShare, oneAfter}
@@ -99,7 +98,7 @@ one-is-readouts C D m f X hX h =
     part : BitString → BitString → ℕ
     part Y z = share m f D (first D (join C X Y Y)) (second D (join C X Y Y)) z
 
--- ---- by the sums S
+-- ---- by the polynomial's sums
 
 -- w put in its place
 in-place : (C : Colour) (X Y w : BitString)
@@ -109,28 +108,28 @@ in-place Red X Y w = refl
 in-place Blue X Y w = refl
 in-place Green X Y w = refl
 
--- 2^(4m) times N is the sum of S squared over the 2^(2m) strings with X on C.
-pub one-squares : (m : ℕ) (gs : List Gate) (C : Colour) (X : BitString) → areGates m gs ≡ true → length X ≤ m
-    → pos (2 ^ (4 * m)) *ℤ pos (oneCount m (polynomial gs) C X) ≡ sum m (λ w₁. sum m (λ w₂. square (signedSum m gs (join C X w₁ w₂))))
-one-squares m gs C X ok hX =
+-- 2^(4m) times N is the sum of the squares of f's sums over the 2^(2m) strings with X on C.
+pub one-squares : (m : ℕ) (f : Polynomial) (C : Colour) (X : BitString) → length X ≤ m
+    → pos (2 ^ (4 * m)) *ℤ pos (oneCount m f C X) ≡ sum m (λ w₁. sum m (λ w₂. square (phaseSum m f (join C X w₁ w₂))))
+one-squares m f C X hX =
     ap pos (ap (λ (n : ℕ). n * N) powers ∙ regroup (2 ^ (3 * m)) (2 ^ m) N)
-    ∙ ap (λ (n : ℕ). pos (2 ^ (3 * m)) *ℤ pos n) (one-is-readouts C D m (polynomial gs) X hX (second-other C))
+    ∙ ap (λ (n : ℕ). pos (2 ^ (3 * m)) *ℤ pos n) (one-is-readouts C D m f X hX (second-other C))
     ∙ ap (λ x. pos (2 ^ (3 * m)) *ℤ x) (sym (tally-sum m T))
     ∙ sym (sum-mul m (pos (2 ^ (3 * m))) (λ Y. pos (T Y)))
-    ∙ sum-cong m (λ Y. pos (2 ^ (3 * m)) *ℤ pos (T Y)) (λ w₁. sum m (λ w₂. square (signedSum m gs (join C X w₁ w₂))))
+    ∙ sum-cong m (λ Y. pos (2 ^ (3 * m)) *ℤ pos (T Y)) (λ w₁. sum m (λ w₂. square (phaseSum m f (join C X w₁ w₂))))
     (λ Y l. let k = joined-lengths C D m X Y hX (omega arith) in
-    readout-squares m gs D (first D (join C X Y Y)) (second D (join C X Y Y)) ok (k .0) (k .1)
-    ∙ sum-ext m (λ w. square (signedSum m gs (join D w (first D (join C X Y Y)) (second D (join C X Y Y))))) (λ w. square (signedSum m gs (join C X Y w)))
-    (λ w. ap (λ s. square (signedSum m gs s)) (in-place C X Y w)))
+    readout-squares m f D (first D (join C X Y Y)) (second D (join C X Y Y)) (k .0) (k .1)
+    ∙ sum-ext m (λ w. square (phaseSum m f (join D w (first D (join C X Y Y)) (second D (join C X Y Y))))) (λ w. square (phaseSum m f (join C X Y w)))
+    (λ w. ap (λ s. square (phaseSum m f s)) (in-place C X Y w)))
   where
     D : Colour
     D = second C colours
 
     N : ℕ
-    N = oneCount m (polynomial gs) C X
+    N = oneCount m f C X
 
     T : BitString → ℕ
-    T Y = readoutCount m (polynomial gs) D (first D (join C X Y Y)) (second D (join C X Y Y))
+    T Y = readoutCount m f D (first D (join C X Y Y)) (second D (join C X Y Y))
 
     powers : 2 ^ (4 * m) ≡ 2 ^ (3 * m) * 2 ^ m
     powers = ap (λ (n : ℕ). 2 ^ n) (four m) ∙ pow-add 2 (3 * m) m

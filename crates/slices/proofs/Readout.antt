@@ -1,8 +1,7 @@
--- The readout count T: 2^(3m) times T is the sum of S squared over the strings of the colour unread, and all T add up to 2^(3m).
+-- The readout count T of a polynomial: 2^(3m) times T is a sum of squares over the strings of the colour unread, and all T add up to 2^(3m).
 use mathlib.Core.Path.{_≡_, refl, sym, _∙_, ap, ap₂, subst}
 use mathlib.Core.Logic.{inl, inr}
 use mathlib.Core.Bool.{Bool, true, false, cond}
-use mathlib.Core.List.{List}
 use Prim.Native.Nat.{ℕ, zero, suc, _+_, _-_, _*_, _^_, _≤_, _<_}
 use native.Mathlib.Omega.{arith}
 use lib.ListN.{length}
@@ -17,15 +16,14 @@ use Rattle.gf2.proofs.Sums.{sum-cong, sum-ext, sum-mul, sum-const, sum-swap}
 use Rattle.gf2.proofs.Parseval.{walsh, square, parseval}
 use Rattle.gf2.proofs.HighFirst.{sum-highFirst}
 use Rattle.circuit.specs.declared.Colour.{Colour}
-use Rattle.circuit.specs.declared.Gate.{Gate}
 use Rattle.circuit.specs.Colours.{join}
-use Rattle.circuit.specs.Sum.{areGates, signedSum}
-use Rattle.circuit.specs.Polynomial.{Polynomial, polynomial, value}
+use Rattle.circuit.specs.Polynomial.{Polynomial, value}
 use Rattle.circuit.proofs.Three.{the-join, first-join, second-join}
+use Rattle.circuit.proofs.SignedSum.{phaseSum}
 use Rattle.slices.specs.Slices.{gamma, innerSum}
 use Rattle.slices.specs.Rank.{tally, rank}
 use Rattle.slices.specs.Totals.{isNought, share, tallyBelow, readoutAfter, readoutCount}
-use Rattle.slices.proofs.Slicing.{signedSum-by-slices}
+use Rattle.slices.proofs.Slicing.{phaseSum-by-slices}
 use Rattle.slices.proofs.Rank.{tally-sum, tally-cong, IsPower, rank-le, innerSum-size, pow-cancel, pow-twice, pow-thrice}
 
 -- The readout count as a sum over strings.
@@ -73,18 +71,18 @@ squares C m f X Y hX hY =
     ∙ sum-mul m (pos (2 ^ (2 * m))) (λ z. pos (share m f C X Y z))
     ∙ ap (λ x. pos (2 ^ (2 * m)) *ℤ x) (tally-sum m (share m f C X Y))
 
-signedSum-walsh : (C : Colour) (m : ℕ) (gs : List Gate) (w X Y : BitString) → areGates m gs ≡ true → signedSum m gs (join C w X Y) ≡ walsh m (innerSum m (polynomial gs) C X Y) w
+phaseSum-walsh : (C : Colour) (m : ℕ) (f : Polynomial) (w X Y : BitString) → phaseSum m f (join C w X Y) ≡ walsh m (innerSum m f C X Y) w
 unfolding walsh
-signedSum-walsh C m gs w X Y v = signedSum-by-slices C m gs (join C w X Y) v ∙ simp (the-join, first-join, second-join)
+phaseSum-walsh C m f w X Y = phaseSum-by-slices C m f (join C w X Y) ∙ simp (the-join, first-join, second-join)
 
-readoutTally-squares : (C : Colour) (m : ℕ) (gs : List Gate) (X Y : BitString) → areGates m gs ≡ true → length X ≤ m → length Y ≤ m
-    → pos (2 ^ (3 * m)) *ℤ pos (readoutTally m (polynomial gs) C X Y) ≡ sum m (λ w. square (signedSum m gs (join C w X Y)))
-readoutTally-squares C m gs X Y v hX hY = sym (
-    sum-ext m (λ w. square (signedSum m gs (join C w X Y))) (λ w. square (walsh m (innerSum m (polynomial gs) C X Y) w)) (λ w. ap square (signedSum-walsh C m gs w X Y v))
-    ∙ parseval m (innerSum m (polynomial gs) C X Y)
-    ∙ ap (λ x. pos (2 ^ m) *ℤ x) (squares C m (polynomial gs) X Y hX hY)
-    ∙ sym (*ℤ-assoc (pos (2 ^ m)) (pos (2 ^ (2 * m))) (pos (readoutTally m (polynomial gs) C X Y)))
-    ∙ ap (λ (n : ℕ). pos n *ℤ pos (readoutTally m (polynomial gs) C X Y)) (sym (pow-thrice m)))
+readoutTally-squares : (C : Colour) (m : ℕ) (f : Polynomial) (X Y : BitString) → length X ≤ m → length Y ≤ m
+    → pos (2 ^ (3 * m)) *ℤ pos (readoutTally m f C X Y) ≡ sum m (λ w. square (phaseSum m f (join C w X Y)))
+readoutTally-squares C m f X Y hX hY = sym (
+    sum-ext m (λ w. square (phaseSum m f (join C w X Y))) (λ w. square (walsh m (innerSum m f C X Y) w)) (λ w. ap square (phaseSum-walsh C m f w X Y))
+    ∙ parseval m (innerSum m f C X Y)
+    ∙ ap (λ x. pos (2 ^ m) *ℤ x) (squares C m f X Y hX hY)
+    ∙ sym (*ℤ-assoc (pos (2 ^ m)) (pos (2 ^ (2 * m))) (pos (readoutTally m f C X Y)))
+    ∙ ap (λ (n : ℕ). pos n *ℤ pos (readoutTally m f C X Y)) (sym (pow-thrice m)))
 
 parseval₂ : (m : ℕ) (g : BitString → BitString → ℤ) → sum m (λ X. sum m (λ Y. square (walsh m (λ u. walsh m (g u) Y) X))) ≡ pos (2 ^ m) *ℤ (pos (2 ^ m) *ℤ sum m (λ u. sum m (λ v. square (g u v))))
 parseval₂ m g =
@@ -177,12 +175,12 @@ pub count-is-tally : (m : ℕ) (f : Polynomial) (C : Colour) (X Y : BitString) �
 unfolding readoutCount readoutAfter readoutTally
 count-is-tally m f C X Y = tally-highFirst m (share m f C X Y)
 
--- 2^(3m) · T is the sum of S(s)² over the 2^m strings of C beside X and Y.
+-- 2^(3m) · T is the sum of the squares of f's sums over the 2^m strings of C beside X and Y, for every polynomial f.
 pub readout-squares :
-    (m : ℕ) (gs : List Gate) (C : Colour) (X Y : BitString) → areGates m gs ≡ true → length X ≤ m → length Y ≤ m →
-    pos (2 ^ (3 * m)) *ℤ pos (readoutCount m (polynomial gs) C X Y) ≡ sum m (λ w. square (signedSum m gs (join C w X Y)))
-readout-squares m gs C X Y v hX hY =
-    ap (λ (n : ℕ). pos (2 ^ (3 * m)) *ℤ pos n) (count-is-tally m (polynomial gs) C X Y) ∙ readoutTally-squares C m gs X Y v hX hY
+    (m : ℕ) (f : Polynomial) (C : Colour) (X Y : BitString) → length X ≤ m → length Y ≤ m →
+    pos (2 ^ (3 * m)) *ℤ pos (readoutCount m f C X Y) ≡ sum m (λ w. square (phaseSum m f (join C w X Y)))
+readout-squares m f C X Y hX hY =
+    ap (λ (n : ℕ). pos (2 ^ (3 * m)) *ℤ pos n) (count-is-tally m f C X Y) ∙ readoutTally-squares C m f X Y hX hY
 
 -- The T of all 2^(2m) pairs add up to 2^(3m).
 pub readout-total : (m : ℕ) (f : Polynomial) (C : Colour) → tally m (λ X. tally m (λ Y. readoutCount m f C X Y)) ≡ 2 ^ (3 * m)

@@ -1,6 +1,6 @@
--- The signed sum is a sum over the slices of any one colour, and the inner sum that of Γ and its vectors.
+-- The sum of a polynomial's signs is a sum over the slices of any one colour, and the inner sum that of Γ and its vectors.
 use mathlib.Core.Path.{_≡_, refl, sym, _∙_, ap, ap₂}
-use mathlib.Core.Bool.{Bool, true, false, _&&_}
+use mathlib.Core.Bool.{Bool, false, _&&_}
 use mathlib.Core.List.{List, [], _∷_}
 use Prim.Native.Nat.{ℕ, zero, suc, _≤_}
 use native.Mathlib.Omega.{arith}
@@ -14,13 +14,12 @@ use Rattle.gf2.proofs.Sums.{sum-cong, sum-ext, sum-mul}
 use Rattle.gf2.proofs.Parities.{parity-ext, parity-and, parity-swap}
 use Rattle.circuit.specs.declared.Colour.{Colour}
 use Rattle.circuit.specs.declared.Colour.the-variants.{Red, Blue, Green}
-use Rattle.circuit.specs.declared.Gate.{Gate}
 use Rattle.circuit.specs.Colours.{the, first, second, join}
-use Rattle.circuit.specs.Sum.{Basis, at, areGates, dots, signedSum}
-use Rattle.circuit.specs.Polynomial.{Polynomial, term, polynomial, value}
+use Rattle.circuit.specs.Sum.{Basis, at, dots}
+use Rattle.circuit.specs.Polynomial.{Polynomial, value}
 use Rattle.circuit.proofs.Leading.{sumAll-lead}
 use Rattle.circuit.proofs.Value.{factor, value-join}
-use Rattle.circuit.proofs.SignedSum.{signedSum-by-polynomial}
+use Rattle.circuit.proofs.SignedSum.{phaseSum}
 use Rattle.elimination.proofs.Systems.{Equation, off, offs, pairSum, pairSum-is, systemSum}
 use Rattle.slices.specs.Slices.{along, coefficient, gamma, firstVector, secondVector, innerSum}
 use Rattle.slices.specs.Rank.{times}
@@ -32,29 +31,27 @@ dots-join Red s z u v = refl
 dots-join Blue s z u v = ⊕-left-comm (dot (s .red) u) (dot (s .blue) z) (dot (s .green) v)
 dots-join Green s z u v = sym (⊕-assoc (dot (s .red) u) (dot (s .blue) v) (dot (s .green) z)) ∙ ⊕-comm (dot (s .red) u ⊕ dot (s .blue) v) (dot (s .green) z)
 
--- the slices of colour C, as strings
-pub signedSum-by-slices : (C : Colour) (m : ℕ) (gs : List Gate) (s : Basis) → areGates m gs ≡ true
-    → signedSum m gs s ≡ sum m (λ z. signedPart m (polynomial gs) C s z)
-unfolding innerSum
-signedSum-by-slices C m gs s v =
-    signedSum-by-polynomial m gs s v
-    ∙ sumAll-lead C m (λ x. sgn (f x ⊕ dots s x))
-    ∙ sum-ext m (λ z. sum m (λ u. sum m (λ w. sgn (f (join C z u w) ⊕ dots s (join C z u w))))) (λ z. sgn (dot (the C s) z) *ℤ sum m (λ u. sum m (λ w. term z u w))) at-z
+-- The sum of a polynomial's signs, with an output string s, by the slices of colour C, as strings.
+pub phaseSum-by-slices : (C : Colour) (m : ℕ) (f : Polynomial) (s : Basis) → phaseSum m f s ≡ sum m (λ z. signedPart m f C s z)
+unfolding phaseSum innerSum
+phaseSum-by-slices C m f s =
+    sumAll-lead C m (λ x. sgn (phase x ⊕ dots s x))
+    ∙ sum-ext m (λ z. sum m (λ u. sum m (λ w. sgn (phase (join C z u w) ⊕ dots s (join C z u w))))) (λ z. sgn (dot (the C s) z) *ℤ sum m (λ u. sum m (λ w. term z u w))) at-z
   where
-    f : Basis → Bool
-    f = value m (polynomial gs)
+    phase : Basis → Bool
+    phase = value m f
 
     term : BitString → BitString → BitString → ℤ
-    term z u w = sgn (f (join C z u w) ⊕ (dot (first C s) u ⊕ dot (second C s) w))
+    term z u w = sgn (phase (join C z u w) ⊕ (dot (first C s) u ⊕ dot (second C s) w))
 
-    at-w : (z u w : BitString) → sgn (f (join C z u w) ⊕ dots s (join C z u w)) ≡ sgn (dot (the C s) z) *ℤ term z u w
-    at-w z u w = ap (λ y. sgn (f (join C z u w) ⊕ y)) (dots-join C s z u w)
-        ∙ ap sgn (⊕-left-comm (f (join C z u w)) (dot (the C s) z) (dot (first C s) u ⊕ dot (second C s) w))
-        ∙ sgn-⊕ (dot (the C s) z) (f (join C z u w) ⊕ (dot (first C s) u ⊕ dot (second C s) w))
+    at-w : (z u w : BitString) → sgn (phase (join C z u w) ⊕ dots s (join C z u w)) ≡ sgn (dot (the C s) z) *ℤ term z u w
+    at-w z u w = ap (λ y. sgn (phase (join C z u w) ⊕ y)) (dots-join C s z u w)
+        ∙ ap sgn (⊕-left-comm (phase (join C z u w)) (dot (the C s) z) (dot (first C s) u ⊕ dot (second C s) w))
+        ∙ sgn-⊕ (dot (the C s) z) (phase (join C z u w) ⊕ (dot (first C s) u ⊕ dot (second C s) w))
 
-    at-z : (z : BitString) → sum m (λ u. sum m (λ w. sgn (f (join C z u w) ⊕ dots s (join C z u w)))) ≡ sgn (dot (the C s) z) *ℤ sum m (λ u. sum m (λ w. term z u w))
-    at-z z = sum-ext m (λ u. sum m (λ w. sgn (f (join C z u w) ⊕ dots s (join C z u w)))) (λ u. sgn (dot (the C s) z) *ℤ sum m (λ w. term z u w))
-        (λ u. sum-ext m (λ w. sgn (f (join C z u w) ⊕ dots s (join C z u w))) (λ w. sgn (dot (the C s) z) *ℤ term z u w) (at-w z u) ∙ sum-mul m (sgn (dot (the C s) z)) (λ w. term z u w))
+    at-z : (z : BitString) → sum m (λ u. sum m (λ w. sgn (phase (join C z u w) ⊕ dots s (join C z u w)))) ≡ sgn (dot (the C s) z) *ℤ sum m (λ u. sum m (λ w. term z u w))
+    at-z z = sum-ext m (λ u. sum m (λ w. sgn (phase (join C z u w) ⊕ dots s (join C z u w)))) (λ u. sgn (dot (the C s) z) *ℤ sum m (λ w. term z u w))
+        (λ u. sum-ext m (λ w. sgn (phase (join C z u w) ⊕ dots s (join C z u w))) (λ w. sgn (dot (the C s) z) *ℤ term z u w) (at-w z u) ∙ sum-mul m (sgn (dot (the C s) z)) (λ w. term z u w))
         ∙ sum-mul m (sgn (dot (the C s) z)) (λ u. sum m (λ w. term z u w))
 
 pub length-along : {A : Type 0} (n : ℕ) (f : ℕ → A) → length (along n f) ≡ n

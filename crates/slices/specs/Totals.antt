@@ -3,7 +3,7 @@ use mathlib.Core.Bool.{Bool, true, false, cond, _&&_}
 use Prim.Native.Nat.{ℕ, zero, suc, _+_, _-_, _*_, _^_}
 use lib.Dec.{leb}
 use lib.IntN.{ℤ, pos, negsuc, natAbs, _*ℤ_}
-use Rattle.gf2.specs.Strings.{BitString, _⊞_, dot}
+use Rattle.gf2.specs.Strings.{BitString, dot}
 use Rattle.gf2.specs.Sums.{sumBelow, sgn}
 use Rattle.gf2.specs.Digits.{highFirst}
 use Rattle.circuit.specs.declared.Colour.{Colour}
@@ -55,10 +55,6 @@ readoutOver m f C X Y from count = tallyBelow count (λ k. share m f C X Y (high
 -- The readout count T of X and Y, C unread: after all 2^m slices (Manual 3.6).
 unfoldable pub readoutCount : ℕ → Polynomial → Colour → BitString → BitString → ℕ
 readoutCount m f C X Y = readoutAfter m f C X Y (2 ^ m)
-
--- The output string s with the start t added. What is answered for t at s is what is answered there for a start of zeros (Manual 1.6).
-unfoldable pub withStart : Basis → Basis → Basis
-withStart t s = record { red = s .red ⊞ t .red; blue = s .blue ⊞ t .blue; green = s .green ⊞ t .green }
 
 -- ---- which slices are worked, and on which totals
 
