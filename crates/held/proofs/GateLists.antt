@@ -26,6 +26,10 @@ gate-at m [] i v k = absurd (omega arith)
 gate-at m (g ∷ gs) zero v k = and-both (isGate m g) (areGates m gs) v .0
 gate-at m (g ∷ gs) (suc i) v k = gate-at m gs i (and-both (isGate m g) (areGates m gs) v .1) (omega arith)
 
+-- The gates before others.
+pub gates-before : (m : ℕ) (gs hs : List Gate) → areGates m (gs ++ hs) ≡ true → areGates m gs ≡ true
+gates-before m gs hs v = and-both (areGates m gs) _ (rw (gates-append m gs hs) at v) .0
+
 -- One gate among others.
 pub gate-among : (m : ℕ) (gs : List Gate) (g : Gate) (hs : List Gate) → areGates m (gs ++ (g ∷ hs)) ≡ true → isGate m g ≡ true
 unfolding areGates
@@ -64,7 +68,7 @@ module _ (m n : ℕ) (more : m ≤ n) where
   position-more : (p : ℕ) → isPosition m p ≡ true → isPosition n p ≡ true
   position-more p h = position-true n p (is-position m p h .0) (omega (arith, is-position m p h .1))
 
-  gate-more : (g : Gate) → isGate m g ≡ true → isGate n g ≡ true
+  pub gate-more : (g : Gate) → isGate m g ≡ true → isGate n g ≡ true
   unfolding isGate
   gate-more (Gate.Ccz i j k) h =
       let rest = and-both (isPosition m i) (isPosition m j && isPosition m k) h .1 in
@@ -78,9 +82,3 @@ module _ (m n : ℕ) (more : m ≤ n) where
       let rest = and-both (isPosition m c) (isPosition m t && not (eqb c t)) h .1 in
       rw (position-more c (and-both (isPosition m c) _ h .0), position-more t (and-both (isPosition m t) _ rest .0))
       (and-both (isPosition m t) _ rest .1)
-
-  pub gates-more : (gs : List Gate) → areGates m gs ≡ true → areGates n gs ≡ true
-  unfolding areGates
-  gates-more [] h = refl
-  gates-more (g ∷ gs) h =
-      rw (gate-more g (and-both (isGate m g) (areGates m gs) h .0)) (gates-more gs (and-both (isGate m g) (areGates m gs) h .1))

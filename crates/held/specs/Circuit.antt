@@ -2,19 +2,15 @@
 use mathlib.Core.List.{List, [], _++_}
 use Prim.Native.Nat.{ℕ, _-_}
 use lib.ListN.{length, take}
-use Rattle.gf2.specs.Strings.{zeros}
 use Rattle.circuit.specs.declared.Gate.{Gate}
 use Rattle.circuit.specs.Sum.{Basis}
+use Rattle.circuit.specs.Start.{allZeros, carriedStart}
 
 -- m, the gates in order, the starting string. No circuit yet is one of no positions: m is 0.
 pub record Circuit : Type 0 where
   pub m : ℕ
   pub gates : List Gate
   pub start : Basis
-
--- A start of zeros, as it is until one is set (Manual 1.6).
-unfoldable pub allZeros : ℕ → Basis
-allZeros m = record { red = zeros m; blue = zeros m; green = zeros m }
 
 -- `circuit`: no gates, and a start of zeros (Manual 5.1).
 unfoldable pub newCircuit : ℕ → Circuit
@@ -31,3 +27,7 @@ withoutLast k c = record { m = c .m; gates = take (length (c .gates) - k) (c .ga
 -- `start`: another starting string; it is not a gate, and the gates stay (Manual 5.7, 8.2).
 unfoldable pub withNewStart : Basis → Circuit → Circuit
 withNewStart s c = record { m = c .m; gates = c .gates; start = s }
+
+-- The start carried to the end of the gates (Manual 1.6).
+unfoldable pub carried : Circuit → Basis
+carried c = carriedStart (c .gates) (c .start)

@@ -13,7 +13,7 @@ use Rattle.polynomial.specs.Words.{wordsOf}
 use Rattle.history.specs.History.{codeOf}
 use Rattle.held.specs.declared.Numbers.{Numbers}
 use Rattle.held.specs.declared.Held.{Held}
-use Rattle.held.specs.Circuit.{Circuit, withGates}
+use Rattle.held.specs.Circuit.{Circuit, withGates, carried}
 
 -- Three strings, each as the number that it is.
 unfoldable pub numbersOf : Basis → Numbers
@@ -21,7 +21,13 @@ numbersOf s = record { red = numberOfBits (s .red); blue = numberOfBits (s .blue
 
 unfoldable pub encodeCircuit : Circuit → Held
 encodeCircuit c =
-    record { m = c .m; count = length (c .gates); start = numbersOf (c .start); polynomial = wordsOf (polynomial (c .gates)) }
+    record {
+      m = c .m;
+      count = length (c .gates);
+      start = numbersOf (c .start);
+      carried = numbersOf (carried c);
+      polynomial = wordsOf (polynomial (c .gates));
+    }
 
 -- The codes of gates put into the history behind those held.
 unfoldable pub stored : ℕ → List Gate → List ℕ → List ℕ
@@ -43,9 +49,9 @@ pub record SoundCircuit (c : Circuit) : Type 0 where
 abbrev pub Stored : List Gate → List ℕ → Type 0
 Stored gs h = take (length gs) h ≡ map codeOf gs
 
--- What a gate is put behind: it is one that a circuit of 16 positions has, and there is a place for its code.
+-- What a gate is put behind: it is one that a circuit of m positions has, and there is a place for its code.
 unfoldable pub hasRoom : Gate → Circuit → List ℕ → Bool
-hasRoom g c h = isGate 16 g && ltb (length (c .gates)) (length h)
+hasRoom g c h = isGate (c .m) g && ltb (length (c .gates)) (length h)
 
 -- One gate more, where there is room for it; otherwise circuit and history stay as they are.
 unfoldable pub withGate : Gate → Circuit → List ℕ → Circuit

@@ -1,13 +1,14 @@
-// What is held of a circuit: m, the gates with their codes in the lent history, the start, the polynomial.
-ghost use mathlib.Core.Bool.{true};
+// What is held of a circuit: m, the gates with their codes in the lent history, the start, as it was given and carried over the gates, the
+// polynomial.
 ghost use mathlib.Core.Path.{_≡_};
 ghost use Prim.Native.Nat.{min};
-ghost use Rattle.circuit.specs.Sum.{Basis, areGates};
+ghost use Rattle.circuit.specs.Sum.{Basis};
 ghost use Rattle.held.specs.Circuit.{Circuit, newCircuit, withoutLast, withNewStart};
-ghost use Rattle.held.specs.Memory.{numbersOf, encodeCircuit, Stored, withGate, withCode};
+ghost use Rattle.held.specs.Memory.{numbersOf, encodeCircuit, Long, SoundCircuit, Stored, withGate, withCode};
 use circuit::Gate;
-use circuit::MOST_POSITIONS;
 use polynomial::WORDS;
+
+mod carried;
 
 // A string for each colour, as numbers with position 1 the highest digit.
 pub struct Numbers {
@@ -22,6 +23,8 @@ pub struct Held {
     // How many gates the history holds.
     pub count: usize,
     pub start: Numbers,
+    // The start carried over the gates: what is added to an output string.
+    pub carried: Numbers,
     pub polynomial: [u32; WORDS],
 }
 
@@ -29,34 +32,40 @@ pub struct Held {
 pub fn empty(m: usize) -> Held
     ensures { λ r. ⌜ r ≡ encodeCircuit (newCircuit m) ⌝ }
 {
+    let zeros = Numbers {
+        red: 0,
+        blue: 0,
+        green: 0,
+    };
     Held {
         m,
         count: 0,
-        start: Numbers {
-            red: 0,
-            blue: 0,
-            green: 0,
-        },
+        start: zeros,
+        carried: zeros,
         polynomial: polynomial::empty(),
     }
 }
 
-// The start set; the rest stays.
-pub fn set_start(held: Held, start: Numbers) -> Held
-    ensures { λ r. ⌜ ((c : Circuit) (s : Basis) → held ≡ encodeCircuit c → start ≡ numbersOf s → r ≡ encodeCircuit (withNewStart s c)) ⌝ }
+// The start set, and carried over the gates held; the rest stays.
+pub fn set_start(held: Held, history: &[u32], start: Numbers) -> Held
+    ensures { λ r. ⌜ ((c : Circuit) (s : Basis) → held ≡ encodeCircuit c → SoundCircuit c → Stored (c .gates) (now (history .entry)) →
+        start ≡ numbersOf s → Long (c .m) s → r ≡ encodeCircuit (withNewStart s c)) ⌝ }
 {
+    let through = carried::over_history(start, held.m, history, held.count);
     let mut next = held;
     next.start = start;
+    next.carried = through;
     next
 }
 
-// One gate at the end of the circuit, and its code in the history. A gate that no circuit has, or that has no place, changes nothing.
+// One gate at the end of the circuit, and its code in the history. A gate that the circuit cannot have, or that has no place, changes nothing.
 pub fn take_gate(held: Held, history: &mut [u32], g: Gate) -> Held
-    ensures { λ r. ⌜ ((c : Circuit) → held ≡ encodeCircuit c → r ≡ encodeCircuit (withGate g c (now (history .entry)))) ⌝ }
+    ensures { λ r. ⌜ ((c : Circuit) → held ≡ encodeCircuit c → SoundCircuit c → r ≡ encodeCircuit (withGate g c (now (history .entry)))) ⌝ }
     ensures { λ _. ⌜ ((c : Circuit) → held ≡ encodeCircuit c → now (history .exit) ≡ withCode g c (now (history .entry))) ⌝ }
 {
+    let m = held.m;
     let at = held.count;
-    if !circuit::is_gate(MOST_POSITIONS, g) {
+    if !circuit::is_gate(m, g) {
         return held;
     }
     if history.len() <= at {
@@ -66,15 +75,18 @@ pub fn take_gate(held: Held, history: &mut [u32], g: Gate) -> Held
     history[at] = history::code(g);
     let words = held.polynomial;
     let next_words = polynomial::apply(words, g);
+    let start = held.carried;
+    let further = carried::over_gate(start, m, g);
     let mut next = held;
     next.polynomial = next_words;
+    next.carried = further;
     next.count = count;
     next
 }
 
-// The last gate taken back: applied once more.
+// The last gate taken back: applied once more, to the polynomial and to the carried start.
 fn take_back(held: Held, history: &[u32]) -> Held
-    ensures { λ r. ⌜ ((c : Circuit) → held ≡ encodeCircuit c → areGates 16 (c .gates) ≡ true → Stored (c .gates) (now (history .entry)) →
+    ensures { λ r. ⌜ ((c : Circuit) → held ≡ encodeCircuit c → SoundCircuit c → Stored (c .gates) (now (history .entry)) →
         r ≡ encodeCircuit (withoutLast 1 c)) ⌝ }
 {
     let count = held.count;
@@ -88,8 +100,11 @@ fn take_back(held: Held, history: &[u32]) -> Held
     let gate = history::gate(history[at]);
     let words = held.polynomial;
     let earlier_words = polynomial::apply(words, gate);
+    let start = held.carried;
+    let back = carried::over_gate(start, held.m, gate);
     let mut next = held;
     next.polynomial = earlier_words;
+    next.carried = back;
     next.count = at;
     next
 }
@@ -102,7 +117,7 @@ fn least(a: usize, b: usize) -> usize
 
 // The last `k` gates taken back, last gate first; all of them where there are fewer.
 pub fn undo(held: Held, history: &[u32], k: usize) -> Held
-    ensures { λ r. ⌜ ((c : Circuit) → held ≡ encodeCircuit c → areGates 16 (c .gates) ≡ true → Stored (c .gates) (now (history .entry)) →
+    ensures { λ r. ⌜ ((c : Circuit) → held ≡ encodeCircuit c → SoundCircuit c → Stored (c .gates) (now (history .entry)) →
         r ≡ encodeCircuit (withoutLast k c)) ⌝ }
 {
     let all = least(k, held.count);

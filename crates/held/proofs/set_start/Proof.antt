@@ -1,12 +1,16 @@
--- Only the start is another.
+-- The new start is carried over the gates held; the rest stays.
+use borrow.Author.Needs.{needs}
+use Rattle.held.specs.Circuit.{withNewStart, carried}
+use Rattle.held.specs.Memory.{encodeCircuit}
+use Rattle.held.proofs.GateStates.{start-set}
 use Rattle.held.proofs.set_start.Statement.{statement}
 use Rattle.held.proofs.set_start.Tie as tie
-use Rattle.held.specs.Circuit.{withNewStart}
-use Rattle.held.specs.Memory.{encodeCircuit}
+
+over-history-requires : tie.Need-over-history-requires
+over-history-requires c κs = search needs
 
 returns : tie.Need-returns
-unfolding encodeCircuit withNewStart
-returns c k s is e = rw (is, e)
+returns c k s is sound codes e long = start-set k _ is _ _ _ s (c .over-history .ensures) sound codes e long
 
 pub set-start-spec : {M : Type 1} → statement M
-set-start-spec = tie.close (tie.spec returns)
+set-start-spec = tie.close (tie.spec over-history-requires returns)

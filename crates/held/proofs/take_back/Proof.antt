@@ -1,4 +1,4 @@
--- The last place held gives the last gate, and a gate applied twice leaves the polynomial as it was.
+-- The last place held gives the last gate, and a gate applied twice leaves polynomial and carried start as they were.
 use Rattle.held.proofs.take_back.Statement.{statement}
 use Rattle.held.proofs.take_back.Tie as tie
 use borrow.Author.Needs.{needs}
@@ -25,8 +25,16 @@ gate-requires c κs = search needs
 apply-requires : tie.Need-apply-requires
 apply-requires c κs = search needs
 
+over-gate-requires : tie.Need-over-gate-requires
+over-gate-requires c κs = search needs
+
 returns-3 : tie.Need-returns-3
-returns-3 c = λ k is v codes. gate-taken-back k _ is _ v codes (c .before .before .before .before .before .if1 .left) _ (rw (c .before .before .gate .ensures) at (c .apply .ensures))
+returns-3 c =
+    let applied = c .before .before in
+    let gate = applied .before .before .gate .ensures in
+    λ k is v codes.
+    gate-taken-back k _ is _ v codes (applied .before .before .before .before .before .if1 .left) _ _ (rw gate at (applied .apply .ensures))
+    (rw gate at (c .over-gate .ensures))
 
 pub take-back-spec : {M : Type 1} → statement M
 take-back-spec =
@@ -39,4 +47,5 @@ take-back-spec =
     shared-slice-read-gate
     gate-requires
     apply-requires
+    over-gate-requires
     returns-3)

@@ -3,20 +3,17 @@ use Rattle.held.proofs.undo.Statement.{statement}
 use Rattle.held.proofs.undo.Tie as tie
 use borrow.Author.Needs.{needs}
 use mathlib.Core.Path.{_≡_, ap, sym, _∙_}
-use mathlib.Core.Bool.{true}
 use Prim.Native.Nat.{_-_, _≤_, min}
 use native.Mathlib.Omega.{arith}
 use lib.ListN.{length}
-use Rattle.circuit.specs.Sum.{areGates}
 use Rattle.held.specs.Circuit.{Circuit, withoutLast}
-use Rattle.held.specs.Memory.{encodeCircuit, Stored}
+use Rattle.held.specs.Memory.{encodeCircuit, SoundCircuit, Stored}
 use Rattle.held.proofs.GateHistory.{codes-front}
-use Rattle.held.proofs.GateLists.{gates-left}
-use Rattle.held.proofs.GateStates.{held-gates, one-fewer, none-back, no-more-back}
+use Rattle.held.proofs.GateStates.{held-gates, sound-left, one-fewer, none-back, no-more-back}
 
 abbrev Inv-loop : tie.InvT-loop
 Inv-loop history k all next₀ undone₀ next undone =
-    ((c : Circuit) → next₀ ≡ encodeCircuit c → areGates 16 (c .gates) ≡ true → Stored (c .gates) history → next ≡ encodeCircuit (withoutLast undone c)) ×
+    ((c : Circuit) → next₀ ≡ encodeCircuit c → SoundCircuit c → Stored (c .gates) history → next ≡ encodeCircuit (withoutLast undone c)) ×
     (undone ≤ all)
 
 abbrev μ-loop : tie.MeasureT-loop
@@ -42,7 +39,7 @@ unfolding withoutLast
 loop-again c =
     let i = c .before .before .loop .undone in (
       λ k is v codes.
-          c .take-back .ensures (withoutLast i k) (c .before .before .loop .inv .0 k is v codes) (gates-left 16 (length (k .gates) - i) (k .gates) v)
+          c .take-back .ensures (withoutLast i k) (c .before .before .loop .inv .0 k is v codes) (sound-left i k v)
           (codes-front (length (k .gates) - i) (k .gates) _ (omega arith) codes)
           ∙ ap encodeCircuit (one-fewer k i),
       search needs,
