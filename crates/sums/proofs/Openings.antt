@@ -1,14 +1,13 @@
--- A sum is opened: its table is that of the polynomial with the output string, the start's ones added, and no slice is worked yet.
-use mathlib.Core.Path.{_≡_, refl, ap, ap₂, sym, subst, _∙_}
-use mathlib.Core.Bool.{Bool, cond}
+-- A sum is opened: its table is that of the polynomial with the output string, the carried start added to it, and no slice is worked yet.
+use mathlib.Core.Path.{_≡_, refl, ap, sym, _∙_}
+use mathlib.Core.Bool.{cond}
 use mathlib.Core.List.{List}
-use Prim.Native.Nat.{ℕ, _≤_}
+use Prim.Native.Nat.{ℕ}
 use lib.Bits.{bitXor}
 use lib.Dec.{leb}
 use lib.IntN.{pos}
-use lib.ListN.{length}
 use borrow.Author.Tests.{le-leb}
-use Rattle.gf2.specs.Strings.{BitString, _⊞_, zeros}
+use Rattle.gf2.specs.Strings.{BitString, zeros}
 use Rattle.gf2.specs.Sums.{sumBelow}
 use Rattle.gf2.specs.Digits.{highFirst}
 use Rattle.gf2.specs.Words.{numberOfBits}
@@ -16,114 +15,98 @@ use Rattle.gf2.proofs.HighFirst.{highFirst-xor}
 use Rattle.gf2.proofs.BitNumbers.{long-back, length-zeros, number-zeros}
 use Rattle.circuit.specs.declared.Colour.{Colour}
 use Rattle.circuit.specs.declared.Colour.the-variants.{Red, Blue, Green}
-use Rattle.circuit.specs.Colours.{the, first, second, join, colours}
+use Rattle.circuit.specs.Colours.{first, join, colours}
 use Rattle.circuit.specs.Polynomial.{Polynomial, polynomial}
 use Rattle.circuit.specs.Holding.{holding}
-use Rattle.circuit.specs.Sum.{Basis}
+use Rattle.circuit.specs.Start.{withStart}
 use Rattle.polynomial.specs.Words.{wordsOf}
 use Rattle.tables.specs.Packing.{strings, withOutput, tableOf}
-use Rattle.slices.specs.Totals.{withStart, amplitudeAfter, tallyBelow, readoutAfter}
+use Rattle.slices.specs.Totals.{amplitudeAfter, tallyBelow, readoutAfter}
 use Rattle.slices.specs.OneColour.{oneAfter}
+use Rattle.held.specs.declared.Numbers.{Numbers}
 use Rattle.held.specs.declared.Held.{Held}
-use Rattle.held.specs.Circuit.{Circuit}
-use Rattle.held.specs.Memory.{numbersOf, encodeCircuit, Long, SoundCircuit}
+use Rattle.held.specs.Circuit.{Circuit, carried}
+use Rattle.held.specs.Memory.{numbersOf, encodeCircuit, SoundCircuit}
+use Rattle.held.proofs.CarriedNumbers.{carried-long}
 use Rattle.forms.specs.Typed.{amp, part, one}
 use Rattle.sums.specs.declared.Total.the-variants.{Amplitude, Readout, OneColour}
-use Rattle.sums.specs.Tables.{sliced, output, shown, kept, tableFor}
+use Rattle.sums.specs.Tables.{sliced, output, kept, tableFor}
 use Rattle.sums.specs.Sums.{totalAfter, encodeSum, opening}
 
--- The start's ones added to three numbers are those added to the strings.
+-- The carried start added to three numbers is that added to the strings.
 start-added :
     (c : Circuit) → SoundCircuit c → (r b g : ℕ) →
-    strings (c .m) (bitXor r (numberOfBits (c .start .red))) (bitXor b (numberOfBits (c .start .blue))) (bitXor g (numberOfBits (c .start .green)))
-    ≡ withStart (c .start) (strings (c .m) r b g)
+    strings (c .m) (bitXor r (numberOfBits (carried c .red))) (bitXor b (numberOfBits (carried c .blue))) (bitXor g (numberOfBits (carried c .green)))
+    ≡ withStart (carried c) (strings (c .m) r b g)
 unfolding strings withStart
 start-added c s r b g =
+    let long = carried-long c s in
     rw (
-      highFirst-xor (c .m) r (numberOfBits (c .start .red)),
-      highFirst-xor (c .m) b (numberOfBits (c .start .blue)),
-      highFirst-xor (c .m) g (numberOfBits (c .start .green)),
-      long-back (c .m) (c .start .red) (s .start .red),
-      long-back (c .m) (c .start .blue) (s .start .blue),
-      long-back (c .m) (c .start .green) (s .start .green),
+      highFirst-xor (c .m) r (numberOfBits (carried c .red)),
+      highFirst-xor (c .m) b (numberOfBits (carried c .blue)),
+      highFirst-xor (c .m) g (numberOfBits (carried c .green)),
+      long-back (c .m) (carried c .red) (long .red),
+      long-back (c .m) (carried c .blue) (long .blue),
+      long-back (c .m) (carried c .green) (long .green),
     )
 
--- What is seen of a state with an output string.
-unfoldable seen : Held → Colour → ℕ → ℕ → ℕ → Polynomial → List ℕ
-seen s C r b g f =
-    tableOf C (cond (leb (s .m) 16) (withOutput (strings (s .m) (bitXor r (s .start .red)) (bitXor b (s .start .blue)) (bitXor g (s .start .green))) f) f)
+-- The words of a state with an output string.
+unfoldable shown : Held → Numbers → Polynomial → List ℕ
+shown s n f =
+    wordsOf
+    (cond (leb (s .m) 16) (withOutput (strings (s .m) (bitXor (n .red) (s .carried .red)) (bitXor (n .blue) (s .carried .blue)) (bitXor (n .green) (s .carried .green))) f) f)
 
-pub table-made :
-    (s : Held) (C : Colour) (r b g : ℕ) (t : List ℕ) →
+-- What is seen of a circuit with an output string.
+abbrev pub seenWith : Circuit → Numbers → Polynomial
+seenWith c n = withOutput (withStart (carried c) (strings (c .m) (n .red) (n .blue) (n .green))) (polynomial (c .gates))
+
+pub words-seen :
+    (s : Held) (n : Numbers) (w : List ℕ) →
     ((f : Polynomial) → s .polynomial ≡ wordsOf f →
-    t ≡ tableOf C (cond (leb (s .m) 16) (withOutput (strings (s .m) (bitXor r (s .start .red)) (bitXor b (s .start .blue)) (bitXor g (s .start .green))) f) f)) →
-    (c : Circuit) → s ≡ encodeCircuit c → SoundCircuit c →
-    t ≡ tableOf C (withOutput (withStart (c .start) (strings (c .m) r b g)) (polynomial (c .gates)))
-unfolding seen encodeCircuit numbersOf
-table-made s C r b g t made c is sound =
+    w ≡ wordsOf
+    (cond (leb (s .m) 16) (withOutput (strings (s .m) (bitXor (n .red) (s .carried .red)) (bitXor (n .blue) (s .carried .blue)) (bitXor (n .green) (s .carried .green))) f) f)) →
+    (c : Circuit) → s ≡ encodeCircuit c → SoundCircuit c → w ≡ wordsOf (seenWith c n)
+unfolding shown encodeCircuit numbersOf
+words-seen s n w made c is sound =
     made (polynomial (c .gates)) (ap (λ (x : Held). x .polynomial) is)
-    ∙ ap (λ (x : Held). seen x C r b g (polynomial (c .gates))) is
-    ∙ rw (le-leb (c .m) 16 (sound .most), start-added c sound r b g)
+    ∙ ap (λ (x : Held). shown x n (polynomial (c .gates))) is
+    ∙ rw (le-leb (c .m) 16 (sound .most), start-added c sound (n .red) (n .blue) (n .green))
+
+-- ---- the table, by what is asked
 
 zero-digits : (m : ℕ) → zeros m ≡ highFirst m 0
 zero-digits m = sym (long-back m (zeros m) (length-zeros m)) ∙ ap (highFirst m) (number-zeros m)
 
--- The table of an amplitude.
+-- Three numbers, as seen from a colour.
+abbrev pub joinedAs : Colour → ℕ → ℕ → ℕ → Numbers
+joinedAs C z u v = record { red = join C z u v .red; blue = join C z u v .blue; green = join C z u v .green }
+
+strings-joined :
+    (C : Colour) (m z u v : ℕ) → strings m (join C z u v .red) (join C z u v .blue) (join C z u v .green) ≡ join C (highFirst m z) (highFirst m u) (highFirst m v)
+unfolding strings join
+strings-joined Red m z u v = refl
+strings-joined Blue m z u v = refl
+strings-joined Green m z u v = refl
+
 pub amplitude-tabled :
     (C : Colour) (r b g : ℕ) (c : Circuit) →
-    tableOf C (withOutput (withStart (c .start) (strings (c .m) r b g)) (polynomial (c .gates)))
-    ≡ tableFor (amp C (highFirst (c .m) r) (highFirst (c .m) b) (highFirst (c .m) g)) c
-unfolding tableFor sliced shown kept output strings
+    tableOf C (seenWith c (record { red = r; blue = b; green = g })) ≡ tableFor (amp C (highFirst (c .m) r) (highFirst (c .m) b) (highFirst (c .m) g)) c
+unfolding tableFor sliced kept output strings
 amplitude-tabled C r b g c = refl
 
--- The table of a readout: zeros for the unread colour, and the two strings beside it.
+-- Zeros for the unread colour, and the two strings beside it.
 pub readout-tabled :
-    (C D : Colour) (x y : ℕ) (c : Circuit) → C ≡ D →
-    tableOf C (withOutput (withStart (c .start) (join D (highFirst (c .m) 0) (highFirst (c .m) x) (highFirst (c .m) y))) (polynomial (c .gates)))
-    ≡ tableFor (part C (highFirst (c .m) x) (highFirst (c .m) y)) c
-unfolding tableFor sliced shown kept output
-readout-tabled C D x y c e = rw (e, zero-digits (c .m))
+    (C : Colour) (x y : ℕ) (n : Numbers) (c : Circuit) → n ≡ joinedAs C 0 x y →
+    tableOf C (seenWith c n) ≡ tableFor (part C (highFirst (c .m) x) (highFirst (c .m) y)) c
+unfolding tableFor sliced kept output
+readout-tabled C x y n c e = rw (e, strings-joined C (c .m) 0 x y, zero-digits (c .m))
 
--- ---- where only one colour is read
-
--- The strings of three colours that have m bits each, as seen from one of them.
-pub parts-long : (C : Colour) (m : ℕ) (t : Basis) → Long m t → (length (the C t) ≡ m) × (length (first C t) ≡ m) × (length (second C t) ≡ m)
-unfolding the first second
-parts-long Red m t l = (l .red, l .blue, l .green)
-parts-long Blue m t l = (l .blue, l .red, l .green)
-parts-long Green m t l = (l .green, l .red, l .blue)
-
--- The string of the colour that is read, its start's ones added, and zeros for the other two.
-read-placed :
-    (C : Colour) (m n : ℕ) (x : BitString) → highFirst m n ≡ x →
-    strings m (join C n 0 0 .red) (join C n 0 0 .blue) (join C n 0 0 .green) ≡ output m (one C x)
-unfolding strings output join
-read-placed Red m n x e = rw (e, zero-digits m)
-read-placed Blue m n x e = rw (e, zero-digits m)
-read-placed Green m n x e = rw (e, zero-digits m)
-
-pub read-seen :
-    (C : Colour) (m x k : ℕ) (t : Basis) (f : Polynomial) → m ≤ 16 → Long m t → k ≡ numberOfBits (the C t) →
-    cond (leb m 16) (withOutput (strings m (join C (bitXor x k) 0 0 .red) (join C (bitXor x k) 0 0 .blue) (join C (bitXor x k) 0 0 .green)) f) f
-    ≡ withOutput (output m (one C (highFirst m x ⊞ the C t))) f
-read-seen C m x k t f few long e =
-    ap (λ (b : Bool). cond b (withOutput (strings m (join C (bitXor x k) 0 0 .red) (join C (bitXor x k) 0 0 .blue) (join C (bitXor x k) 0 0 .green)) f) f)
-    (le-leb m 16 few)
-    ∙ ap (λ (s : Basis). withOutput s f)
-    (read-placed C m (bitXor x k) (highFirst m x ⊞ the C t)
-    (highFirst-xor m x k ∙ ap (λ (s : BitString). highFirst m x ⊞ s) (ap (highFirst m) e ∙ long-back m (the C t) (parts-long C m t long .0))))
-
+-- The string of the colour that is read, zeros for the other two, and of the terms those that hold a position of it.
 pub one-tabled :
-    (s : Held) (C D : Colour) (x : ℕ) (t : List ℕ) → D ≡ first C colours →
-    ((f : Polynomial) (b : Basis) → s .polynomial ≡ wordsOf f → s .start ≡ numbersOf b → Long (s .m) b → s .m ≤ 16 →
-    t ≡ tableOf D (withOutput (output (s .m) (one C (highFirst (s .m) x ⊞ the C b))) (holding C f))) →
-    (c : Circuit) → s ≡ encodeCircuit c → SoundCircuit c → t ≡ tableFor (one C (highFirst (c .m) x)) c
-unfolding encodeCircuit tableFor sliced shown kept
-one-tabled s C D x t unread made c is sound =
-    let m : s .m ≡ c .m = ap (λ (h : Held). h .m) is in
-    made (polynomial (c .gates)) (c .start) (ap (λ (h : Held). h .polynomial) is) (ap (λ (h : Held). h .start) is)
-    (subst (λ (n : ℕ). Long n (c .start)) (sym m) (sound .start)) (subst (λ (n : ℕ). n ≤ 16) (sym m) (sound .most))
-    ∙ ap₂ (λ (E : Colour) (n : ℕ). tableOf E (withOutput (output n (one C (highFirst n x ⊞ the C (c .start)))) (holding C (polynomial (c .gates))))) unread m
+    (C D : Colour) (x : ℕ) (n : Numbers) (c : Circuit) → n ≡ joinedAs C x 0 0 → D ≡ first C colours →
+    tableOf D (holding C (seenWith c n)) ≡ tableFor (one C (highFirst (c .m) x)) c
+unfolding tableFor sliced kept output
+one-tabled C D x n c e unread = rw (e, unread, strings-joined C (c .m) x 0 0, zero-digits (c .m))
 
 -- ---- no slice is worked yet
 

@@ -20,25 +20,29 @@ use Rattle.circuit.specs.declared.Colour.the-variants.{Red, Blue, Green}
 use Rattle.circuit.specs.declared.Gate.{Gate}
 use Rattle.circuit.specs.Colours.{the, first, second, join, colours}
 use Rattle.circuit.specs.Sum.{Basis}
+use Rattle.circuit.specs.Start.{withStart}
 use Rattle.circuit.specs.Polynomial.{Polynomial, polynomial}
 use Rattle.circuit.proofs.Colours.{first-other}
-use Rattle.circuit.proofs.Three.{first-join, second-join}
+use Rattle.circuit.proofs.Three.{the-join, first-join, second-join}
+use Rattle.circuit.proofs.Phase.{sized-the}
+use Rattle.circuit.proofs.Start.{start-joined}
 use Rattle.tables.specs.Packing.{strings, withOutput, tableOf, Tabled, OneTabled}
-use Rattle.slices.specs.Totals.{withStart, areSlices, moderate, moderateCount, amplitudeAfter, amplitudeOver, readoutAfter, readoutOver}
+use Rattle.tables.proofs.OutputTerms.{holding-output}
+use Rattle.slices.specs.Totals.{areSlices, moderate, moderateCount, amplitudeAfter, amplitudeOver, readoutAfter, readoutOver}
 use Rattle.slices.specs.OneColour.{oneAfter, oneOver}
 use Rattle.slices.proofs.Bounds.{amplitudeAfter-bound}
 use Rattle.totals.proofs.OutcomeTests.{abs-fits}
 use Rattle.totals.proofs.SliceTotals.{amplitude-continued, readout-continued}
 use Rattle.totals.proofs.OneColourTotals.{one-continued}
-use Rattle.held.specs.Circuit.{Circuit}
+use Rattle.held.specs.Circuit.{Circuit, carried}
 use Rattle.held.specs.Memory.{Long, SoundCircuit}
+use Rattle.held.proofs.CarriedNumbers.{carried-long, carried-sized}
 use Rattle.forms.specs.Typed.{Asked, amp, part, one}
 use Rattle.sums.specs.declared.Total.{Total}
 use Rattle.sums.specs.declared.Total.the-variants.{Closed, Amplitude, Readout, OneColour}
-use Rattle.sums.specs.Tables.{sliced, output, shown, kept, tableFor}
+use Rattle.sums.specs.Tables.{sliced, output, kept, tableFor}
 use Rattle.sums.specs.Sums.{OpenSum, totalAfter}
 use Rattle.sums.specs.Soundness.{SoundSum}
-use Rattle.sums.proofs.Openings.{parts-long}
 
 -- A signed number as a word of 64 bits holds it.
 abbrev pub inWord : ℤ → ℤ
@@ -84,20 +88,21 @@ length-sum (suc m) (x ∷ a) (y ∷ b) h k = ap suc (length-sum m a b (omega ari
 
 -- Sums of all terms, sliced on C, with the output string s.
 module _ (c : Circuit) (C : Colour) (s : Basis) (sound : SoundCircuit c) (long : Long (c .m) s) where
-  -- The output string with the start's ones added.
+  -- The output string with the carried start added.
   out : Basis
-  out = withStart (c .start) s
+  out = withStart (carried c) s
 
   by-numbers : strings (c .m) (numberOfBits (out .red)) (numberOfBits (out .blue)) (numberOfBits (out .green)) ≡ out
   unfolding strings out withStart
   by-numbers =
+      let start = carried-long c sound in
       rw (
-        long-back (c .m) (out .red) (length-sum (c .m) _ _ (long .red) (sound .start .red)),
-        long-back (c .m) (out .blue) (length-sum (c .m) _ _ (long .blue) (sound .start .blue)),
-        long-back (c .m) (out .green) (length-sum (c .m) _ _ (long .green) (sound .start .green)),
+        long-back (c .m) (out .red) (length-sum (c .m) _ _ (long .red) (start .red)),
+        long-back (c .m) (out .blue) (length-sum (c .m) _ _ (long .blue) (start .blue)),
+        long-back (c .m) (out .green) (length-sum (c .m) _ _ (long .green) (start .green)),
       )
 
-  module _ (table : List ℕ) (made : table ≡ tableOf C (withOutput (withStart (c .start) s) (polynomial (c .gates)))) (from count : ℕ) (within : from + count ≤ 2 ^ c .m) where
+  module _ (table : List ℕ) (made : table ≡ tableOf C (withOutput (withStart (carried c) s) (polynomial (c .gates)))) (from count : ℕ) (within : from + count ≤ 2 ^ c .m) where
     tabled : Tabled (c .m) (c .gates) C out table
     unfolding out
     tabled = record { gates = sound .gates; made = made }
@@ -123,14 +128,7 @@ module _ (c : Circuit) (C : Colour) (s : Basis) (sound : SoundCircuit c) (long :
         within
         is
 
--- The start added to a string, colour by colour.
-pub start-joined : (C : Colour) (t : Basis) (z x y : BitString) → withStart t (join C z x y) ≡ join C (z ⊞ the C t) (x ⊞ first C t) (y ⊞ second C t)
-unfolding withStart join the first second
-start-joined Red t z x y = refl
-start-joined Blue t z x y = refl
-start-joined Green t z x y = refl
-
--- Beside the unread colour stand X and Y with the start's ones.
+-- Beside the unread colour stand X and Y with the start added.
 first-out : (C : Colour) (z x y : BitString) (t : Basis) → first C (withStart t (join C z x y)) ≡ x ⊞ first C t
 first-out C z x y t = ap (first C) (start-joined C t z x y) ∙ first-join C _ _ _
 
@@ -157,7 +155,7 @@ never-closed (one C x) c w t e z = never (cc)
 pub total-in-word : (q : Asked) (c : Circuit) (w : ℕ) (z : ℤ) → c .m ≤ 16 → w ≤ 2 ^ c .m → Amplitude z ≡ totalAfter q c w → inWord z ≡ z
 unfolding totalAfter
 total-in-word (amp C r b g) c w z few most e =
-    let is : z ≡ amplitudeAfter (c .m) (polynomial (c .gates)) C (withStart (c .start) (record { red = r; blue = b; green = g })) w = cc in
+    let is : z ≡ amplitudeAfter (c .m) (polynomial (c .gates)) C (withStart (carried c) (record { red = r; blue = b; green = g })) w = cc in
     ap inWord is ∙ amplitude-in-word (c .m) _ C _ w few most ∙ sym is
 total-in-word (part C x y) c w z few most e = never (cc)
 total-in-word (one C x) c w z few most e = never (cc)
@@ -166,10 +164,10 @@ amplitude-by :
     (q : Asked) (c : Circuit) → SoundCircuit c → Long (c .m) (output (c .m) q) → (table : List ℕ) → table ≡ tableFor q c → (from count : ℕ) →
     from + count ≤ 2 ^ c .m → (z x : ℤ) → Amplitude z ≡ totalAfter q c from → AmplitudeWorked table (c .m) from count (inWord z) x →
     Amplitude (inWord x) ≡ totalAfter q c (from + count)
-unfolding totalAfter tableFor sliced shown kept output out
+unfolding totalAfter tableFor sliced kept output out
 amplitude-by (amp C r b g) c s long table made from count within z x e w =
     let f = polynomial (c .gates) in
-    let S = withStart (c .start) (record { red = r; blue = b; green = g }) in
+    let S = withStart (carried c) (record { red = r; blue = b; green = g }) in
     let is : z ≡ amplitudeAfter (c .m) f C S from = cc in
     let before : inWord z ≡ amplitudeAfter (c .m) f C S from =
     ap inWord is ∙ amplitude-in-word (c .m) f C S from (s .most) (omega arith) in
@@ -182,34 +180,36 @@ readout-by :
     (q : Asked) (c : Circuit) → SoundCircuit c → Long (c .m) (output (c .m) q) → (table : List ℕ) → table ≡ tableFor q c → (from count : ℕ) →
     from + count ≤ 2 ^ c .m → (z x : ℕ) → Readout z ≡ totalAfter q c from → ReadoutWorked table (c .m) from count z x →
     Readout x ≡ totalAfter q c (from + count)
-unfolding totalAfter tableFor sliced shown kept output out
+unfolding totalAfter tableFor sliced kept output out
 readout-by (amp C r b g) c s long table made from count within z x e w = never (cc)
 readout-by (part C x y) c s long table made from count within z v e w =
     let f = polynomial (c .gates) in
-    let is : z ≡ readoutAfter (c .m) f C (x ⊞ first C (c .start)) (y ⊞ second C (c .start)) from = cc in
-    let before : z ≡ readoutAfter (c .m) f C (first C (withStart (c .start) (join C (zeros (c .m)) x y))) (second C (withStart (c .start) (join C (zeros (c .m)) x y))) from =
-    rw (first-out C (zeros (c .m)) x y (c .start), second-out C (zeros (c .m)) x y (c .start)) is in
+    let is : z ≡ readoutAfter (c .m) f C (x ⊞ first C (carried c)) (y ⊞ second C (carried c)) from = cc in
+    let before : z ≡ readoutAfter (c .m) f C (first C (withStart (carried c) (join C (zeros (c .m)) x y))) (second C (withStart (carried c) (join C (zeros (c .m)) x y))) from =
+    rw (first-out C (zeros (c .m)) x y (carried c), second-out C (zeros (c .m)) x y (carried c)) is in
     let after = readout-worked c C (join C (zeros (c .m)) x y) s long table made from count within z v w before in
-    ap Readout (rw (first-out C (zeros (c .m)) x y (c .start), second-out C (zeros (c .m)) x y (c .start)) at after)
+    ap Readout (rw (first-out C (zeros (c .m)) x y (carried c), second-out C (zeros (c .m)) x y (carried c)) at after)
 readout-by (one C x) c s long table made from count within z v e w = never (cc)
 
 one-by :
     (q : Asked) (c : Circuit) → SoundCircuit c → Long (c .m) (output (c .m) q) → (table : List ℕ) → table ≡ tableFor q c → (from count : ℕ) →
     from + count ≤ 2 ^ c .m → (z x : ℕ) → OneColour z ≡ totalAfter q c from → OneWorked table (c .m) from count z x →
     OneColour x ≡ totalAfter q c (from + count)
-unfolding totalAfter tableFor sliced shown kept output
+unfolding totalAfter tableFor sliced kept output
 one-by (amp C r b g) c s long table made from count within z x e w = never (cc)
 one-by (part C x y) c s long table made from count within z v e w = never (cc)
 one-by (one C x) c s long table made from count within z v e w =
     let f = polynomial (c .gates) in
-    let X : BitString = x ⊞ the C (c .start) in
+    let X : BitString = x ⊞ the C (carried c) in
+    let out : Basis = withStart (carried c) (join C x (zeros (c .m)) (zeros (c .m))) in
+    let read : the C out ≡ X = ap (the C) (start-joined C (carried c) x (zeros (c .m)) (zeros (c .m))) ∙ the-join C _ _ _ in
     let is : z ≡ oneAfter (c .m) f C (first C colours) X from = cc in
     let tabled : OneTabled (c .m) (c .gates) C (first C colours) X table =
     record {
       gates = s .gates;
       unread = first-other C;
-      long = length-sum (c .m) x (the C (c .start)) (string-long C (c .m) x long) (parts-long C (c .m) (c .start) (s .start) .0);
-      made = made;
+      long = length-sum (c .m) x (the C (carried c)) (string-long C (c .m) x long) (sized-the C (c .m) (carried c) (carried-sized c s));
+      made = made ∙ ap (tableOf (first C colours)) (holding-output C (c .m) out f) ∙ rw read;
     } in
     ap OneColour (one-continued (c .m) f C (first C colours) X from count z v (w (c .gates) C (first C colours) X tabled) (s .most) within is)
 

@@ -5,10 +5,11 @@ use lib.Dec.{ltb}
 use lib.ListN.{replicate}
 use Rattle.gf2.specs.Strings.{_⊞_}
 use Rattle.circuit.specs.Colours.{the, first, second, colours}
+use Rattle.circuit.specs.Start.{withStart}
 use Rattle.circuit.specs.Polynomial.{polynomial}
-use Rattle.slices.specs.Totals.{amplitudeAfter, readoutAfter, withStart}
+use Rattle.slices.specs.Totals.{amplitudeAfter, readoutAfter}
 use Rattle.slices.specs.OneColour.{oneAfter}
-use Rattle.held.specs.Circuit.{Circuit}
+use Rattle.held.specs.Circuit.{Circuit, carried}
 use Rattle.forms.specs.Typed.{Asked, amp, part, one}
 use Rattle.answers.specs.declared.Answer.{Answer}
 use Rattle.answers.specs.declared.Answer.the-variants as Answer
@@ -32,14 +33,14 @@ isRunning closed = false
 isRunning (running o) = true
 
 -- What the first w slices add up to: the signed total of an `amp` (Manual 3.5), the readout count of a `part` (Manual 3.6), whose X and Y are those
--- of the other two colours in order, the count of a `one` by the slices of the first unread colour (Manual 3.7). The circuit's start is added to
--- the output string (Manual 1.6).
+-- of the other two colours in order, the count of a `one` by the slices of the first unread colour (Manual 3.7). The circuit's start, carried to
+-- the end of its gates, is added to the output string (Manual 1.6).
 unfoldable pub totalAfter : Asked → Circuit → ℕ → Total
 totalAfter (amp C r b g) c w =
-    Amplitude (amplitudeAfter (c .m) (polynomial (c .gates)) C (withStart (c .start) (record { red = r; blue = b; green = g })) w)
+    Amplitude (amplitudeAfter (c .m) (polynomial (c .gates)) C (withStart (carried c) (record { red = r; blue = b; green = g })) w)
 totalAfter (part C x y) c w =
-    Readout (readoutAfter (c .m) (polynomial (c .gates)) C (x ⊞ first C (c .start)) (y ⊞ second C (c .start)) w)
-totalAfter (one C x) c w = OneColour (oneAfter (c .m) (polynomial (c .gates)) C (first C colours) (x ⊞ the C (c .start)) w)
+    Readout (readoutAfter (c .m) (polynomial (c .gates)) C (x ⊞ first C (carried c)) (y ⊞ second C (carried c)) w)
+totalAfter (one C x) c w = OneColour (oneAfter (c .m) (polynomial (c .gates)) C (first C colours) (x ⊞ the C (carried c)) w)
 
 -- The fields of the state: what exactly the slices worked add up to, how many they are, and the table that slices are read from.
 unfoldable pub encodeSum : Opened → Sum

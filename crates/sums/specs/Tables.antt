@@ -1,15 +1,15 @@
 -- The table that a sum's slices are read from, made when it was opened: how its output string stands there.
 use mathlib.Core.List.{List}
 use Prim.Native.Nat.{ℕ}
-use Rattle.gf2.specs.Strings.{_⊞_, zeros}
+use Rattle.gf2.specs.Strings.{zeros}
 use Rattle.circuit.specs.declared.Colour.{Colour}
-use Rattle.circuit.specs.Colours.{the, first, join, colours}
+use Rattle.circuit.specs.Colours.{first, join, colours}
 use Rattle.circuit.specs.Sum.{Basis}
+use Rattle.circuit.specs.Start.{withStart}
 use Rattle.circuit.specs.Polynomial.{Polynomial, polynomial}
 use Rattle.circuit.specs.Holding.{holding}
 use Rattle.tables.specs.Packing.{withOutput, tableOf}
-use Rattle.slices.specs.Totals.{withStart}
-use Rattle.held.specs.Circuit.{Circuit}
+use Rattle.held.specs.Circuit.{Circuit, carried}
 use Rattle.forms.specs.Typed.{Asked, amp, part, one}
 
 -- The colour that a sum is sliced on: where only C is read, the first of the other two.
@@ -24,17 +24,12 @@ output m (amp C r b g) = record { red = r; blue = b; green = g }
 output m (part C x y) = join C (zeros m) x y
 output m (one C x) = join C x (zeros m) (zeros m)
 
--- The same with the start's ones added; where only C is read, C's alone.
-unfoldable pub shown : Asked → Circuit → Basis
-shown (amp C r b g) c = withStart (c .start) (output (c .m) (amp C r b g))
-shown (part C x y) c = withStart (c .start) (output (c .m) (part C x y))
-shown (one C x) c = output (c .m) (one C (x ⊞ the C (c .start)))
-
 -- The terms that its slices are made of: all, but where only C is read those that hold a position of C.
 unfoldable pub kept : Asked → Polynomial → Polynomial
 kept (amp C r b g) f = f
 kept (part C x y) f = f
 kept (one C x) f = holding C f
 
+-- The table of these terms: the output string and the circuit's carried start are added to the polynomial before (Manual 1.6).
 unfoldable pub tableFor : Asked → Circuit → List ℕ
-tableFor q c = tableOf (sliced q) (withOutput (shown q c) (kept q (polynomial (c .gates))))
+tableFor q c = tableOf (sliced q) (kept q (withOutput (withStart (carried c) (output (c .m) q)) (polynomial (c .gates))))

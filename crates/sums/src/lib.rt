@@ -3,18 +3,16 @@ ghost use mathlib.Core.Bool.{cond};
 ghost use mathlib.Core.Path.{_≡_};
 ghost use Prim.Native.Nat.{ℕ, _+_, _^_, _≤_};
 ghost use lib.Dec.{leb};
-ghost use Rattle.gf2.specs.Strings.{_⊞_};
 ghost use Rattle.gf2.specs.Digits.{highFirst};
-ghost use Rattle.circuit.specs.Colours.{the, first, colours};
-ghost use Rattle.circuit.specs.Polynomial.{Polynomial, polynomial};
-ghost use Rattle.circuit.specs.Sum.{Basis};
+ghost use Rattle.circuit.specs.Colours.{first, join, colours};
+ghost use Rattle.circuit.specs.Start.{withStart};
+ghost use Rattle.circuit.specs.Polynomial.{polynomial};
 ghost use Rattle.polynomial.specs.Words.{wordsOf};
-ghost use Rattle.tables.specs.Packing.{strings, withOutput, tableOf};
-ghost use Rattle.slices.specs.Totals.{withStart};
-ghost use Rattle.held.specs.Circuit.{Circuit};
-ghost use Rattle.held.specs.Memory.{Long, numbersOf, encodeCircuit, SoundCircuit};
+ghost use Rattle.tables.specs.Packing.{strings, withOutput};
+ghost use Rattle.held.specs.Circuit.{Circuit, carried};
+ghost use Rattle.held.specs.Memory.{encodeCircuit, SoundCircuit};
 ghost use Rattle.forms.specs.Typed.{Asked, amp, part, one};
-ghost use Rattle.sums.specs.Tables.{output, tableFor};
+ghost use Rattle.sums.specs.Tables.{tableFor};
 ghost use Rattle.sums.specs.Sums.{OpenSum, Opened, closed, running, isRunning, totalAfter, encodeSum, ended, opening, stepped, stepAnswer};
 ghost use Rattle.sums.specs.Soundness.{SoundSum, SoundOpened};
 use answers::Answer;
@@ -76,21 +74,43 @@ pub fn slice_count(m: usize) -> usize
     if m <= 16 { 1 << m } else { 0 }
 }
 
-// The table of the circuit's polynomial with an output string, the start's ones added.
-fn table_of(held: Held, colour: Colour, r: u32, b: u32, g: u32) -> [u64; TABLE]
-    ensures { λ t. ⌜ ((c : Circuit) → held ≡ encodeCircuit c → SoundCircuit c →
-        t ≡ tableOf colour (withOutput (withStart (c .start) (strings (c .m) r b g)) (polynomial (c .gates)))) ⌝ }
+// A string for each colour: `z` for the colour, `u` and `v` for the other two in order.
+fn joined(colour: Colour, z: u32, u: u32, v: u32) -> Numbers
+    ensures { λ r. ⌜ r ≡ record { red = join colour z u v .red; blue = join colour z u v .blue; green = join colour z u v .green } ⌝ }
 {
-    let start = held.start;
+    match colour {
+        Colour::Red => Numbers {
+            red: z,
+            blue: u,
+            green: v,
+        },
+        Colour::Blue => Numbers {
+            red: u,
+            blue: z,
+            green: v,
+        },
+        Colour::Green => Numbers {
+            red: u,
+            blue: v,
+            green: z,
+        },
+    }
+}
+
+// The words of the circuit's polynomial with an output string, the carried start added to it.
+fn seen(held: Held, output: Numbers) -> [u32; WORDS]
+    ensures { λ w. ⌜ ((c : Circuit) → held ≡ encodeCircuit c → SoundCircuit c →
+        w ≡ wordsOf (withOutput (withStart (carried c) (strings (c .m) (output .red) (output .blue) (output .green))) (polynomial (c .gates)))) ⌝ }
+{
+    let start = held.carried;
     let words = held.polynomial;
-    let seen = tables::output::with_output(
+    tables::output::with_output(
         words,
         held.m,
-        r ^ start.red,
-        b ^ start.blue,
-        g ^ start.green,
-    );
-    tables::table::table(seen, colour)
+        output.red ^ start.red,
+        output.blue ^ start.blue,
+        output.green ^ start.green,
+    )
 }
 
 // `(amp C R B G)`, by the numbers of the three strings.
@@ -98,34 +118,30 @@ pub fn open_amplitude(held: Held, colour: Colour, r: u32, b: u32, g: u32) -> Sum
     ensures { λ s. ⌜ ((c : Circuit) → held ≡ encodeCircuit c → SoundCircuit c →
         s ≡ encodeSum (opening c (amp colour (highFirst (c .m) r) (highFirst (c .m) b) (highFirst (c .m) g)))) ⌝ }
 {
+    let output = Numbers {
+        red: r,
+        blue: b,
+        green: g,
+    };
+    let words = seen(held, output);
     Sum {
         total: Total::Amplitude(0),
         worked: 0,
-        table: table_of(held, colour, r, b, g),
+        table: tables::table::table(words, colour),
     }
 }
 
-// The table of a readout: zeros stand for the unread colour.
-fn table_beside(held: Held, colour: Colour, x: u32, y: u32) -> [u64; TABLE]
-    ensures { λ t. ⌜ ((c : Circuit) → held ≡ encodeCircuit c → SoundCircuit c →
-        t ≡ tableFor (part colour (highFirst (c .m) x) (highFirst (c .m) y)) c) ⌝ }
-{
-    match colour {
-        Colour::Red => table_of(held, colour, 0, x, y),
-        Colour::Blue => table_of(held, colour, x, 0, y),
-        Colour::Green => table_of(held, colour, x, y, 0),
-    }
-}
-
-// `(part C X Y)`, by the numbers of the two strings.
+// `(part C X Y)`, by the numbers of the two strings; zeros stand for the unread colour.
 pub fn open_readout(held: Held, colour: Colour, x: u32, y: u32) -> Sum
     ensures { λ s. ⌜ ((c : Circuit) → held ≡ encodeCircuit c → SoundCircuit c →
         s ≡ encodeSum (opening c (part colour (highFirst (c .m) x) (highFirst (c .m) y)))) ⌝ }
 {
+    let output = joined(colour, 0, x, y);
+    let words = seen(held, output);
     Sum {
         total: Total::Readout(0),
         worked: 0,
-        table: table_beside(held, colour, x, y),
+        table: tables::table::table(words, colour),
     }
 }
 
@@ -140,37 +156,17 @@ fn first_unread(read: Colour) -> Colour
     }
 }
 
-// The words with the string of the colour that is read, its start's ones added, and zeros for the other two.
-fn with_read(words: [u32; WORDS], m: usize, start: Numbers, read: Colour, x: u32) -> [u32; WORDS]
-    ensures { λ s. ⌜ ((f : Polynomial) (t : Basis) → words ≡ wordsOf f → start ≡ numbersOf t → Long m t → m ≤ 16 →
-        s ≡ wordsOf (withOutput (output m (one read (highFirst m x ⊞ the read t))) f)) ⌝ }
-{
-    match read {
-        Colour::Red => tables::output::with_output(words, m, x ^ start.red, 0, 0),
-        Colour::Blue => tables::output::with_output(words, m, 0, x ^ start.blue, 0),
-        Colour::Green => tables::output::with_output(words, m, 0, 0, x ^ start.green),
-    }
-}
-
-// The table where only one colour is read: that of the terms that hold a position of it.
-fn table_of_one(held: Held, read: Colour, x: u32) -> [u64; TABLE]
-    ensures { λ t. ⌜ ((c : Circuit) → held ≡ encodeCircuit c → SoundCircuit c → t ≡ tableFor (one read (highFirst (c .m) x)) c) ⌝ }
-{
-    let start = held.start;
-    let words = held.polynomial;
-    let terms = tables::terms::holding(words, read);
-    let seen = with_read(terms, held.m, start, read, x);
-    tables::table::table(seen, first_unread(read))
-}
-
-// `(one C X)`, by the number of the string.
+// `(one C X)`, by the number of the string: of the terms only those that hold a position of C.
 pub fn open_one_colour(held: Held, read: Colour, x: u32) -> Sum
     ensures { λ s. ⌜ ((c : Circuit) → held ≡ encodeCircuit c → SoundCircuit c → s ≡ encodeSum (opening c (one read (highFirst (c .m) x)))) ⌝ }
 {
+    let output = joined(read, x, 0, 0);
+    let words = seen(held, output);
+    let terms = tables::terms::holding(words, read);
     Sum {
         total: Total::OneColour(0),
         worked: 0,
-        table: table_of_one(held, read, x),
+        table: tables::table::table(terms, first_unread(read)),
     }
 }
 

@@ -5,13 +5,17 @@ use Rattle.sums.proofs.Openings.{amplitude-tabled, amplitude-begun}
 use Rattle.sums.proofs.open_amplitude.Statement.{statement}
 use Rattle.sums.proofs.open_amplitude.Tie as tie
 
-table-of-requires : tie.Need-table-of-requires
-table-of-requires c κs = search needs
+seen-requires : tie.Need-seen-requires
+seen-requires c κs = search needs
+
+table-requires : tie.Need-table-requires
+table-requires c κs = search needs
 
 returns : tie.Need-returns
 returns c k is s =
-    let a = c .before .args in
-    amplitude-begun (a .colour) _ _ _ k (c .table-of .result) (c .table-of .ensures k is s ∙ amplitude-tabled (a .colour) (a .r) (a .b) (a .g) k)
+    let a = c .before .before .args in
+    amplitude-begun (a .colour) _ _ _ k (c .table .result)
+    (c .table .ensures _ (c .before .seen .ensures k is s) ∙ amplitude-tabled (a .colour) (a .r) (a .b) (a .g) k)
 
 pub open-amplitude-spec : {M : Type 1} → statement M
-open-amplitude-spec = tie.close (tie.spec table-of-requires returns)
+open-amplitude-spec = tie.close (tie.spec seen-requires table-requires returns)

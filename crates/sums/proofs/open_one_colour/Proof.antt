@@ -1,14 +1,33 @@
 -- Its table is made, and no slice is worked yet.
 use borrow.Author.Needs.{needs}
-use Rattle.sums.proofs.Openings.{one-begun}
+use mathlib.Core.Path.{_∙_}
+use Rattle.sums.proofs.Openings.{one-tabled, one-begun}
 use Rattle.sums.proofs.open_one_colour.Statement.{statement}
 use Rattle.sums.proofs.open_one_colour.Tie as tie
 
-table-of-one-requires : tie.Need-table-of-one-requires
-table-of-one-requires c κs = search needs
+joined-requires : tie.Need-joined-requires
+joined-requires c κs = search needs
+
+seen-requires : tie.Need-seen-requires
+seen-requires c κs = search needs
+
+holding-requires : tie.Need-holding-requires
+holding-requires c κs = search needs
+
+first-unread-requires : tie.Need-first-unread-requires
+first-unread-requires c κs = search needs
+
+table-requires : tie.Need-table-requires
+table-requires c κs = search needs
 
 returns : tie.Need-returns
-returns c k is s = one-begun (c .before .args .read) _ k (c .table-of-one .result) (c .table-of-one .ensures k is s)
+returns c k is s =
+    let terms = c .before .before in
+    let output = terms .before .before in
+    let a = output .before .args in
+    one-begun (a .read) _ k (c .table .result)
+    (c .table .ensures _ (terms .holding .ensures _ (terms .before .seen .ensures k is s))
+    ∙ one-tabled (a .read) _ (a .x) _ k (output .joined .ensures) (c .before .first-unread .ensures))
 
 pub open-one-colour-spec : {M : Type 1} → statement M
-open-one-colour-spec = tie.close (tie.spec table-of-one-requires returns)
+open-one-colour-spec = tie.close (tie.spec joined-requires seen-requires holding-requires first-unread-requires table-requires returns)

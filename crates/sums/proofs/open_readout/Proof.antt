@@ -1,14 +1,25 @@
 -- Its table is made, and no slice is worked yet.
 use borrow.Author.Needs.{needs}
-use Rattle.sums.proofs.Openings.{readout-begun}
+use mathlib.Core.Path.{_∙_}
+use Rattle.sums.proofs.Openings.{readout-tabled, readout-begun}
 use Rattle.sums.proofs.open_readout.Statement.{statement}
 use Rattle.sums.proofs.open_readout.Tie as tie
 
-table-beside-requires : tie.Need-table-beside-requires
-table-beside-requires c κs = search needs
+joined-requires : tie.Need-joined-requires
+joined-requires c κs = search needs
+
+seen-requires : tie.Need-seen-requires
+seen-requires c κs = search needs
+
+table-requires : tie.Need-table-requires
+table-requires c κs = search needs
 
 returns : tie.Need-returns
-returns c k is s = readout-begun (c .before .args .colour) _ _ k (c .table-beside .result) (c .table-beside .ensures k is s)
+returns c k is s =
+    let output = c .before .before in
+    let a = output .before .args in
+    readout-begun (a .colour) _ _ k (c .table .result)
+    (c .table .ensures _ (c .before .seen .ensures k is s) ∙ readout-tabled (a .colour) (a .x) (a .y) _ k (output .joined .ensures))
 
 pub open-readout-spec : {M : Type 1} → statement M
-open-readout-spec = tie.close (tie.spec table-beside-requires returns)
+open-readout-spec = tie.close (tie.spec joined-requires seen-requires table-requires returns)
