@@ -8,10 +8,12 @@ use lib.Dec.{eqb, ltb, eqb·suc-zero}
 use lib.ListN.{length, length-append}
 use Rattle.circuit.specs.declared.Gate.{Gate}
 use Rattle.circuit.specs.Sum.{Basis, areGates, signedSum}
+use Rattle.circuit.specs.Start.{carriedStart}
 use Rattle.circuit.specs.Polynomial.{polynomial}
-use Rattle.circuit.proofs.Layers.{every-order, every-order-sum}
-use Rattle.held.specs.Circuit.{Circuit, withGates}
-use Rattle.held.specs.Memory.{encodeCircuit, stored}
+use Rattle.circuit.proofs.Layers.{every-order, every-order-start, every-order-sum}
+use Rattle.held.specs.Circuit.{Circuit, withGates, carried}
+use Rattle.held.specs.Memory.{encodeCircuit, stored, Long}
+use Rattle.held.proofs.CarriedNumbers.{sized-of}
 use Rattle.held.proofs.GateLists.{gates-added}
 use Rattle.text.specs.Spelling.{bytes}
 use Rattle.forms.specs.Typed.{layer, row}
@@ -36,7 +38,7 @@ pub record Alike (m : ℕ) (p q : Response) : Type 0 where
   pub answer : p .bytes ≡ q .bytes
   pub state : encode (p .after) ≡ encode (q .after)
   pub terms : polynomial (p .after .circuit .gates) ≡ polynomial (q .after .circuit .gates)
-  pub sums : (s : Basis) → signedSum m (p .after .circuit .gates) s ≡ signedSum m (q .after .circuit .gates) s
+  pub sums : (t s : Basis) → Long m t → signedSum m t (p .after .circuit .gates) s ≡ signedSum m t (q .after .circuit .gates) s
 
 module _ (e : Engine) (h : List ℕ) where
   abbrev c : Circuit
@@ -73,25 +75,30 @@ module _ (e : Engine) (h : List ℕ) where
     unfolding row touchedTwice
     same-terms none = rw (append-nil gs, append-nil hs) at (every-order (c .m) (c .gates) [] p (gates none) (passed none .once))
 
-    same-sums : number gs ≡ 0 → (s : Basis) → signedSum (c .m) (c .gates ++ gs) s ≡ signedSum (c .m) (c .gates ++ hs) s
+    same-start : number gs ≡ 0 → (t : Basis) → carriedStart (c .gates ++ gs) t ≡ carriedStart (c .gates ++ hs) t
     unfolding row touchedTwice
-    same-sums none s =
-        rw (append-nil gs, append-nil hs) at (every-order-sum (c .m) (c .gates) [] p (rw (append-nil gs) (gates-added (c .m) (c .gates) gs (sound .circuit .gates) (gates none))) (passed none .once) s)
+    same-start none t = rw (append-nil gs, append-nil hs) at (every-order-start (c .m) (c .gates) [] p (gates none) (passed none .once) t)
+
+    same-sums : number gs ≡ 0 → (t s : Basis) → Long (c .m) t → signedSum (c .m) t (c .gates ++ gs) s ≡ signedSum (c .m) t (c .gates ++ hs) s
+    unfolding row touchedTwice
+    same-sums none t s long =
+        let all = gates-added (c .m) (c .gates) gs (sound .circuit .gates) (gates none) in
+        rw (append-nil gs, append-nil hs) at (every-order-sum (c .m) (c .gates) [] p (rw (append-nil gs) all) (passed none .once) t s (sized-of (c .m) t long))
 
     same-length : length (c .gates ++ gs) ≡ length (c .gates ++ hs)
     same-length = length-append (c .gates) gs ∙ ap (λ (n : ℕ). length (c .gates) + n) (length-reordered p) ∙ sym (length-append (c .gates) hs)
 
     alike : (n : ℕ) → number gs ≡ n → Alike (c .m) (made n gs) (made n hs)
-    unfolding turnBy accepted withGates encode encodeCircuit asksTerms row
+    unfolding turnBy accepted withGates encode encodeCircuit carried asksTerms row
     alike zero none =
         record {
           refusal = refl;
           answer = refl;
-          state = rw (same-length, same-terms none);
+          state = rw (same-length, same-start none (c .start), same-terms none);
           terms = same-terms none;
           sums = same-sums none;
         }
-    alike (suc n) some = record { refusal = refl; answer = refl; state = refl; terms = refl; sums = λ s. refl }
+    alike (suc n) some = record { refusal = refl; answer = refl; state = refl; terms = refl; sums = λ t s long. refl }
 
 -- A layer has bytes.
 some-bytes : (line : List ℕ) (gs : List Gate) → readingOf line ≡ typed (layer gs) → eqb (length line) 0 ≡ false
@@ -109,5 +116,5 @@ every-order-answered e h l k room gs hs sound is also p = rw (some-bytes l gs is
     same = refused-alike (not (eqb (e .circuit .m) 0)) (isRunning (e .opened)) (e .circuit .m) (length h) (length (e .circuit .gates)) p
 
     go : (b : Bool) → Alike (e .circuit .m) (cond b (tooShort e h) (answering e h l)) (cond b (tooShort e h) (answering e h k))
-    go true = record { refusal = refl; answer = refl; state = refl; terms = refl; sums = λ s. refl }
+    go true = record { refusal = refl; answer = refl; state = refl; terms = refl; sums = λ t s long. refl }
     go false = rw (answered e h l gs is, answered e h k hs also, ← same) (alike e h sound l gs hs is p (number e h gs) refl)

@@ -12,10 +12,11 @@ use borrow.Author.Tests.{ne-eqb}
 use Rattle.gf2.proofs.BitNumbers.{length-zeros}
 use Rattle.circuit.specs.declared.Gate.{Gate}
 use Rattle.circuit.specs.Sum.{areGates}
-use Rattle.held.specs.Circuit.{Circuit, allZeros, newCircuit, withGates, withoutLast, withNewStart}
+use Rattle.circuit.specs.Start.{allZeros}
+use Rattle.held.specs.Circuit.{Circuit, newCircuit, withGates, withoutLast, withNewStart}
 use Rattle.held.specs.Memory.{stored, SoundCircuit, Stored}
 use Rattle.held.proofs.GateHistory.{stored-none, stored-more, length-stored, codes-front}
-use Rattle.held.proofs.GateLists.{gates-added, gates-left}
+use Rattle.held.proofs.GateStates.{sound-more, sound-left}
 use Rattle.forms.specs.Typed.{row}
 use Rattle.forms.specs.Spelling.{Reading, gatesIn}
 use Rattle.lines.specs.Readings.{readingOf}
@@ -41,12 +42,11 @@ sound-empty m most =
 sound-kept :
     {room : ℕ} {c c' : Circuit} {o o' : Opened} {r : Reading} {a : Answer} → View room c o r c' o' a → SoundCircuit c → SoundOpened (c .m) o →
     SoundCircuit c' × SoundOpened (c' .m) o'
-unfolding withGates withoutLast withNewStart
+unfolding withNewStart
 sound-kept refuses s t = (s, t)
 sound-kept (creates {m = m} i low high) s t = (sound-empty m high, tt)
-sound-kept (adds {c = c} {gs = gs} g v w) s t = (record { most = s .most; gates = gates-added (c .m) (c .gates) gs (s .gates) v; start = s .start }, tt)
-sound-kept (takesBack {c = c} {k = k}) s t =
-    (record { most = s .most; gates = gates-left (c .m) (length (c .gates) - k) (c .gates) (s .gates); start = s .start }, tt)
+sound-kept (adds {c = c} {gs = gs} g v w) s t = (sound-more gs c s v, tt)
+sound-kept (takesBack {c = c} {k = k}) s t = (sound-left k c s, tt)
 sound-kept (starts long) s t = (record { most = s .most; gates = s .gates; start = long }, tt)
 sound-kept (opensSum {c = c} some long) s t = (s, record { positions = refl; circuit = s; strings = long; worked = pow-pos (c .m) })
 sound-kept (worksOn {o = o} {k = k} w) s t = (

@@ -5,10 +5,10 @@ use mathlib.Core.Path.{_≡_}
 use Prim.Native.Nat.{ℕ, _+_, _≤_}
 use lib.ListN.{length}
 use Rattle.circuit.specs.declared.Gate.{Gate}
-use Rattle.circuit.specs.Sum.{areGates}
+use Rattle.circuit.specs.Sum.{Basis, areGates}
 use Rattle.held.specs.declared.Held.{Held}
-use Rattle.held.specs.Circuit.{Circuit, withGates, withoutLast}
-use Rattle.held.specs.Memory.{encodeCircuit, stored, SoundCircuit, Stored}
+use Rattle.held.specs.Circuit.{Circuit, withGates, withoutLast, withNewStart}
+use Rattle.held.specs.Memory.{encodeCircuit, stored, Long, SoundCircuit, Stored}
 use Rattle.forms.specs.declared.Form.{Form}
 use Rattle.forms.specs.declared.Form.the-variants as Form
 use Rattle.answers.specs.declared.Answer.the-variants as Answer
@@ -36,14 +36,20 @@ pub record Built (c : Circuit) (o : Opened) (gs : List Gate) (h : List ℕ) (r :
 -- What a stage for gates makes of a circuit and a sum, if they are gates and have room.
 abbrev pub Builds : List Gate → Held → Sum → List ℕ → Left → List ℕ → Type 0
 Builds gs k x h r h' =
-    (c : Circuit) (o : Opened) → k ≡ encodeCircuit c → x ≡ encodeSum o → areGates 16 gs ≡ true → length (c .gates) + length gs ≤ length h →
-    Built c o gs h r h'
+    (c : Circuit) (o : Opened) → SoundCircuit c → k ≡ encodeCircuit c → x ≡ encodeSum o → areGates (c .m) gs ≡ true →
+    length (c .gates) + length gs ≤ length h → Built c o gs h r h'
 
 -- What the stage of `undo` makes of a circuit whose gates' codes stand in the history, and of a sum: the last n gates are taken back.
 abbrev pub TakesBack : ℕ → Held → Sum → List ℕ → Left → Type 0
 TakesBack n k x h r =
     (c : Circuit) (o : Opened) → SoundCircuit c → Stored (c .gates) h → k ≡ encodeCircuit c → x ≡ encodeSum o →
     Done (gives (withoutLast n c) o Answer.Ok) r
+
+-- What the stage of `start` makes of a circuit whose gates' codes stand in the history, and of a sum: the start s, of m bits a colour.
+abbrev pub Starts : Basis → Held → Sum → List ℕ → Left → Type 0
+Starts s k x h r =
+    (c : Circuit) (o : Opened) → SoundCircuit c → Stored (c .gates) h → Long (c .m) s → k ≡ encodeCircuit c → x ≡ encodeSum o →
+    Done (gives (withNewStart s c) o Answer.Ok) r
 
 -- A form that is none of a stage's own is given back: nothing is changed. A refused line keeps its refusal, and 0 stands for none.
 unfoldable pub refusalIn : Form → ℕ

@@ -5,7 +5,7 @@ ghost use Prim.Native.Nat.{_+_, _≤_};
 ghost use lib.ListN.{length};
 ghost use Rattle.circuit.specs.Sum.{areGates};
 ghost use Rattle.held.specs.Circuit.{Circuit, withGates};
-ghost use Rattle.held.specs.Memory.{encodeCircuit, stored};
+ghost use Rattle.held.specs.Memory.{encodeCircuit, stored, SoundCircuit};
 ghost use Rattle.gates.specs.Gates.{gatesMet};
 use gates::GateAt;
 use held::Held;
@@ -15,7 +15,7 @@ const FIRST_GATE: usize = 6;
 
 // From left to right: as many as are said, or those before a place where no gate stands.
 pub(crate) fn take_layer(held: Held, history: &mut [u32], line: &[u8], n: usize) -> Held
-    ensures { λ r. ⌜ ((c : Circuit) → held ≡ encodeCircuit c → areGates 16 (gatesMet n (now (line .entry)) 6) ≡ true →
+    ensures { λ r. ⌜ ((c : Circuit) → held ≡ encodeCircuit c → SoundCircuit c → areGates (c .m) (gatesMet n (now (line .entry)) 6) ≡ true →
         length (c .gates) + length (gatesMet n (now (line .entry)) 6) ≤ length (now (history .entry)) →
         (r ≡ encodeCircuit (withGates (gatesMet n (now (line .entry)) 6) c)) ×
         (now (history .exit) ≡ stored (length (c .gates)) (gatesMet n (now (line .entry)) 6) (now (history .entry)))) ⌝ }

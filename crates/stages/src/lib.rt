@@ -7,14 +7,14 @@ ghost use Rattle.circuit.specs.declared.Colour.{Colour};
 ghost use Rattle.circuit.specs.declared.Gate.the-variants as Gate;
 ghost use Rattle.circuit.specs.declared.Spot.{Spot};
 ghost use Rattle.circuit.specs.Sum.{Basis};
-ghost use Rattle.held.specs.Circuit.{Circuit, newCircuit, withNewStart};
+ghost use Rattle.held.specs.Circuit.{Circuit, newCircuit};
 ghost use Rattle.held.specs.Memory.{numbersOf, encodeCircuit, SoundCircuit};
 ghost use Rattle.text.specs.declared.Bits.{Bits};
 ghost use Rattle.gates.specs.Gates.{gatesMet};
 ghost use Rattle.forms.specs.Typed.{amp, part, one, opens, step, drop, terms};
 ghost use Rattle.sums.specs.Sums.{Opened, closed, encodeSum};
 ghost use Rattle.stages.specs.Stages.{gives, accepted};
-ghost use Rattle.stages.specs.Promises.{Done, Does, Builds, TakesBack, givenBack};
+ghost use Rattle.stages.specs.Promises.{Done, Does, Builds, TakesBack, Starts, givenBack};
 use answers::Answer;
 use circuit::Gate;
 use forms::Form;
@@ -140,10 +140,9 @@ pub fn undo_turn(circuit: Held, sum: Sum, history: &[u32], form: Form) -> Turn
     }
 }
 
-pub fn start_turn(circuit: Held, sum: Sum, form: Form) -> Turn
+pub fn start_turn(circuit: Held, sum: Sum, history: &[u32], form: Form) -> Turn
     ensures { λ t. ⌜ ((r b g : Bits) (s : Basis) → form ≡ Form.Start r b g →
-        record { red = r .value; blue = b .value; green = g .value } ≡ numbersOf s →
-        Does (λ c o. gives (withNewStart s c) o Answer.Ok) circuit sum t) ⌝ }
+        record { red = r .value; blue = b .value; green = g .value } ≡ numbersOf s → Starts s circuit sum (now (history .entry)) t) ⌝ }
     ensures { λ t. ⌜ (((r b g : Bits) → form ≡ Form.Start r b g → ⊥) → t ≡ givenBack circuit sum form) ⌝ }
 {
     let Form::Start(r, b, g) = form else {
@@ -154,7 +153,7 @@ pub fn start_turn(circuit: Held, sum: Sum, form: Form) -> Turn
         blue: b.value,
         green: g.value,
     };
-    let next = held::set_start(circuit, start);
+    let next = held::set_start(circuit, history, start);
     Turn {
         circuit: next,
         sum,

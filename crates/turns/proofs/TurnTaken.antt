@@ -16,10 +16,9 @@ use Rattle.circuit.specs.declared.Gate.{Gate}
 use Rattle.circuit.specs.declared.Gate.the-variants as Gate
 use Rattle.circuit.specs.Sum.{Basis}
 use Rattle.held.specs.declared.Held.{Held}
-use Rattle.held.specs.Circuit.{Circuit, newCircuit, withGates, withNewStart}
+use Rattle.held.specs.Circuit.{Circuit, newCircuit, withGates}
 use Rattle.held.specs.Memory.{numbersOf}
 use Rattle.held.proofs.GateHistory.{stored-none}
-use Rattle.held.proofs.GateLists.{gates-more}
 use Rattle.text.specs.declared.Bits.{Bits}
 use Rattle.text.specs.Reading.{capped, heldBits}
 use Rattle.text.proofs.BitNumbers.{held-exactly}
@@ -41,7 +40,7 @@ use Rattle.sums.specs.Sums.{Opened, closed, isRunning}
 use Rattle.stages.specs.declared.Turn.{Turn as Left}
 use Rattle.stages.specs.Stages.{gives, accepted}
 use Rattle.turns.specs.Turns.{refusalOf}
-use Rattle.stages.specs.Promises.{Done, Does, Builds, TakesBack}
+use Rattle.stages.specs.Promises.{Done, Does, Builds, TakesBack, Starts}
 use Rattle.turns.specs.Promises.{Free, Taken}
 use Rattle.turns.proofs.Passing.{Passes, passes}
 use Rattle.turns.proofs.Views.{Building, single, several, one-long, two-long, three-long}
@@ -93,9 +92,7 @@ module _ (c : Circuit) (o : Opened) (k : Held) (x : Sum) (h : List ℕ) (r' : Le
 
   pub start-taken :
       {t : Typed} {r b g : Bits} → HeldAs t (Form.Start r b g) → Free c o k x h t →
-      ((s₀ : Basis) → record { red = r .value; blue = b .value; green = g .value } ≡ numbersOf s₀ →
-      Does (λ c o. gives (withNewStart s₀ c) o Answer.Ok) k x r') →
-      Taken c o h t r' h
+      ((s₀ : Basis) → record { red = r .value; blue = b .value; green = g .value } ≡ numbersOf s₀ → Starts s₀ k x h r') → Taken c o h t r' h
   unfolding accepted row numbersOf
   start-taken (starts {r} {b} {g}) f d =
       let long = three-long (c .m) r b g (passing (start r b g) f .lengths) in
@@ -103,7 +100,7 @@ module _ (c : Circuit) (o : Opened) (k : Held) (x : Sum) (h : List ℕ) (r' : Le
       let s₀ : Basis = record { red = r; blue = b; green = g } in
       let numbers : record { red = heldBits r .value; blue = heldBits b .value; green = heldBits g .value } ≡ numbersOf s₀ =
       rw (held-exactly r (omega (arith, long .red)), held-exactly b (omega (arith, long .blue)), held-exactly g (omega (arith, long .green))) in
-      form-taken (start r b g) refl (d s₀ numbers c o (f .stands .sound) (f .stands .opened) (f .stands .circuit) (f .stands .sum))
+      form-taken (start r b g) refl (d s₀ numbers c o (f .stands .sound) (f .stands .codes) long (f .stands .circuit) (f .stands .sum))
 
   pub amplitude-taken :
       {t : Typed} {C : Colour} {r b g : Bits} → HeldAs t (Form.Amp C r b g) → Free c o k x h t →
@@ -162,7 +159,7 @@ module _ (c : Circuit) (o : Opened) (k : Held) (x : Sum) (h : List ℕ) (r' : Le
         let all : met ≡ gs = same (c .m) most inside in
         let held = f .stands .room in
         let room : length (c .gates) + length gs ≤ length h = omega (arith, rw g at (p .fits)) in
-        let q = d c o (f .stands .circuit) (f .stands .sum) (rw all (gates-more (c .m) 16 most gs valid)) (rw all room) in
+        let q = d c o (f .stands .sound) (f .stands .circuit) (f .stands .sum) (rw all valid) (rw all room) in
         record { turn = rw (building-accepted c o b) (rw all at (q .turn)); history = rw g (rw all at (q .history)) }
 
     pub ccz-taken : {t : Typed} {p q r : ℕ} → HeldAs t (Form.Ccz p q r) → readingOf line ≡ typed t → Free c o k x h t → Builds (Gate.Ccz p q r ∷ []) k x h r' h' → Taken c o h t r' h'

@@ -26,7 +26,7 @@ fn taken(circuit: Held, sum: Sum, history: &mut [u32], line: &[u8], form: Form) 
         Form::Cnot(_, _, _) => stages::cnot_turn(circuit, sum, history, form),
         Form::Layer(_) => stages::layer_turn(circuit, sum, history, line, form),
         Form::Undo(_) => stages::undo_turn(circuit, sum, &*history, form),
-        Form::Start(_, _, _) => stages::start_turn(circuit, sum, form),
+        Form::Start(_, _, _) => stages::start_turn(circuit, sum, &*history, form),
         Form::Amp(_, _, _, _) => stages::amplitude_turn(circuit, sum, form),
         Form::Part(_, _, _) => stages::readout_turn(circuit, sum, form),
         Form::One(_, _) => stages::one_colour_turn(circuit, sum, form),

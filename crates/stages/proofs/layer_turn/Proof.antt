@@ -22,10 +22,10 @@ same-length c = search needs
 
 returns-2 : tie.Need-returns-2
 returns-2 c = (
-  λ n told k o is x valid room.
+  λ n told k o sound is x valid room.
       let form = c .before .before .before .before .before .form .given in
       let same : form .0 .0 ≡ n = cc (form .1) in
-      let t = c .before .before .take-layer .ensures k is (rw same valid) (rw same room) in
+      let t = c .before .before .take-layer .ensures k is sound (rw same valid) (rw same room) in
       rw (← same) (record { turn = record { circuit = t .0; sum = x; answer = refl }; history = t .1 }),
   λ other. absurd (other _ (c .before .before .before .before .before .form .given .1)),
 )

@@ -1,7 +1,6 @@
--- The form is `undo`; the gates of a circuit of at most 16 positions are gates of one of 16.
+-- The form is `undo`, whose turn takes gates back.
 use Rattle.stages.proofs.StageLaws.{own-form}
 use mathlib.Core.Path.{_≡_, refl}
-use Rattle.held.proofs.GateLists.{gates-more}
 use borrow.Author.Needs.{needs}
 use Rattle.stages.proofs.undo_turn.Statement.{statement}
 use Rattle.stages.proofs.undo_turn.Tie as tie
@@ -23,8 +22,7 @@ returns-2 c = (
   λ n told k o sound codes is x.
       let form = c .before .before .form .given in
       let same : form .0 .0 ≡ n = cc (form .1) in
-      let valid = gates-more (k .m) 16 (sound .most) (k .gates) (sound .gates) in
-      rw (← same) (record { circuit = c .undo .ensures k is valid codes; sum = x; answer = refl }),
+      rw (← same) (record { circuit = c .undo .ensures k is sound codes; sum = x; answer = refl }),
   λ other. absurd (other _ (c .before .before .form .given .1)),
 )
 

@@ -12,9 +12,9 @@ same-length : tie.Need-same-length
 same-length c = search needs
 
 returns : tie.Need-returns
-returns c k o is x valid room =
+returns c k o sound is x valid room =
     let taken = c .before .before .take-gate .ensures in
-    let t = one-taken k _ _ _ _ _ (taken .0) (taken .1) is valid room in
+    let t = one-taken k _ _ _ _ _ (taken .0) (taken .1) is sound valid room in
     record { turn = record { circuit = t .0; sum = x; answer = refl }; history = t .1 }
 
 pub with-gate-spec : {M : Type 1} → statement M

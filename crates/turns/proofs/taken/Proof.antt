@@ -127,8 +127,8 @@ returns-6 c k o t is f =
 
 returns-7 : tie.Need-returns-7
 returns-7 c k o t is f =
-    let start = c .before .before .before .before .before in
-    let told = c .before .enum-told7 .given .1 in
+    let start = c .before .before .before .before .before .before in
+    let told = c .before .before .enum-told7 .given .1 in
     start-taken k o _ _ _ _ (held-told _ _ _ t (start .pre) is told) f (λ s₀. c .start-turn .ensures .0 _ _ _ s₀ told)
 
 returns-8 : tie.Need-returns-8
@@ -188,6 +188,9 @@ same-length-4 c = search needs
 same-length-5 : tie.Need-same-length-5
 same-length-5 c = search needs
 
+same-length-6 : tie.Need-same-length-6
+same-length-6 c = search needs
+
 pub taken-spec : {M : Type 1} → statement M
 taken-spec =
     tie.close
@@ -231,6 +234,7 @@ taken-spec =
     returns-5
     same-length-5
     returns-6
+    same-length-6
     returns-7
     returns-8
     returns-9

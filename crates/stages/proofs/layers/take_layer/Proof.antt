@@ -13,8 +13,8 @@ use Rattle.gates.specs.Gates.{gatesMet}
 use Rattle.gates.proofs.LayerWalk.{met-next, met-end, met-all}
 use Rattle.held.specs.declared.Held.{Held}
 use Rattle.held.specs.Circuit.{Circuit}
-use Rattle.held.specs.Memory.{encodeCircuit}
-use Rattle.held.proofs.GateLists.{gate-among}
+use Rattle.held.specs.Memory.{encodeCircuit, SoundCircuit}
+use Rattle.held.proofs.GateLists.{gates-before, gate-among}
 use Rattle.stages.proofs.GateTaken.{TakenOnto, none-taken, one-more}
 use borrow.Author.Needs.{needs}
 use Rattle.stages.proofs.layers.take_layer.Statement.{statement}
@@ -23,7 +23,8 @@ use Rattle.stages.proofs.layers.take_layer.Tie as tie
 -- What is promised for the gates `gs`, if all of them are gates and have room.
 abbrev Took : Held → List ℕ → List Gate → List Gate → Held → List ℕ → Type 0
 Took s h all gs s' h' =
-    (c : Circuit) → s ≡ encodeCircuit c → areGates 16 all ≡ true → length (c .gates) + length all ≤ length h → TakenOnto c h gs s' h'
+    (c : Circuit) → s ≡ encodeCircuit c → SoundCircuit c → areGates (c .m) all ≡ true → length (c .gates) + length all ≤ length h →
+    TakenOnto c h gs s' h'
 
 abbrev Inv-loop : tie.InvT-loop
 Inv-loop history₀ line n next₀ at₀ i₀ history next at i =
@@ -37,13 +38,13 @@ Inv-loop history₀ line n next₀ at₀ i₀ history next at i =
 all-taken : (s : Held) (h : List ℕ) (all gs rest : List Gate) (s' : Held) (h' : List ℕ) → all ≡ gs ++ rest → rest ≡ [] → Took s h all gs s' h' → Took s h all all s' h'
 all-taken s h all gs rest s' h' e none t =
     let same : all ≡ gs = e ∙ ap (λ (r : List Gate). gs ++ r) none ∙ append-nil gs in
-    λ c is v room. rw same (t c is v room)
+    λ c is sound v room. rw same (t c is sound v room)
 
 abbrev μ-loop : tie.MeasureT-loop
 μ-loop history₀ line n next₀ at₀ i₀ history next at i = n - i
 
 loop-holds : tie.Need-loop-holds Inv-loop μ-loop
-loop-holds c = (omega arith, refl, ([], rw sub-zero, λ k is v room. none-taken k _ _ is))
+loop-holds c = (omega arith, refl, ([], rw sub-zero, λ k is sound v room. none-taken k _ _ is))
 
 layer-gate-requires : tie.Need-layer-gate-requires Inv-loop μ-loop
 layer-gate-requires c κs = search needs
@@ -98,10 +99,12 @@ loop-again c =
       (
         gs ++ (g ∷ []),
         split ∙ sym (append-assoc gs (g ∷ []) rest),
-        λ k is v room.
+        λ k is sound v room.
             one-more k (now (a .history)) gs g (loop .next) _ (loop .history) _
-            (met .2 k is v room)
-            (gate-among 16 gs g rest (rw split at v))
+            (met .2 k is sound v room)
+            sound
+            (gates-before (k .m) gs (g ∷ rest) (rw split at v))
+            (gate-among (k .m) gs g rest (rw split at v))
             (omega arith)
             (taken .take-gate .ensures .0)
             (taken .take-gate .ensures .1),
