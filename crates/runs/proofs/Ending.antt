@@ -8,10 +8,11 @@ use Rattle.gf2.proofs.Impossible.{never}
 use Rattle.circuit.specs.declared.Colour.{Colour}
 use Rattle.circuit.specs.Colours.{the, first, second, colours}
 use Rattle.circuit.specs.Sum.{Basis}
+use Rattle.circuit.specs.Start.{withStart}
 use Rattle.circuit.specs.Polynomial.{polynomial}
-use Rattle.slices.specs.Totals.{amplitudeAfter, readoutCount, withStart}
+use Rattle.slices.specs.Totals.{amplitudeAfter, readoutCount}
 use Rattle.slices.specs.OneColour.{oneAfter}
-use Rattle.held.specs.Circuit.{Circuit}
+use Rattle.held.specs.Circuit.{Circuit, carried}
 use Rattle.forms.specs.Typed.{Asked, amp, part, one}
 use Rattle.forms.specs.Spelling.{Reading}
 use Rattle.answers.specs.declared.Answer.{Answer}
@@ -23,20 +24,20 @@ pub data ReadoutEnd (t n : ℕ) : Opened → Type 0 where
   counted :
       (o : OpenSum) (C : Colour) (x y : BitString) → o .asked ≡ part C x y →
       t
-      ≡ readoutCount (o .circuit .m) (polynomial (o .circuit .gates)) C (x ⊞ first C (o .circuit .start)) (y ⊞ second C (o .circuit .start)) →
+      ≡ readoutCount (o .circuit .m) (polynomial (o .circuit .gates)) C (x ⊞ first C (carried (o .circuit))) (y ⊞ second C (carried (o .circuit))) →
       n ≡ 3 * o .circuit .m → ReadoutEnd t n (running o)
 
 pub data AmplitudeEnd (s : ℤ) (n : ℕ) : Opened → Type 0 where
   summed :
       (o : OpenSum) (C : Colour) (u : Basis) → o .asked ≡ amp C (u .red) (u .blue) (u .green) →
-      s ≡ amplitudeAfter (o .circuit .m) (polynomial (o .circuit .gates)) C (withStart (o .circuit .start) u) (2 ^ o .circuit .m) →
+      s ≡ amplitudeAfter (o .circuit .m) (polynomial (o .circuit .gates)) C (withStart (carried (o .circuit)) u) (2 ^ o .circuit .m) →
       n ≡ 3 * o .circuit .m → AmplitudeEnd s n (running o)
 
 pub data OneEnd (t n : ℕ) : Opened → Type 0 where
   settled :
       (o : OpenSum) (C : Colour) (x : BitString) → o .asked ≡ one C x →
       t
-      ≡ oneAfter (o .circuit .m) (polynomial (o .circuit .gates)) C (first C colours) (x ⊞ the C (o .circuit .start)) (2 ^ o .circuit .m) →
+      ≡ oneAfter (o .circuit .m) (polynomial (o .circuit .gates)) C (first C colours) (x ⊞ the C (carried (o .circuit))) (2 ^ o .circuit .m) →
       n ≡ 2 * o .circuit .m → OneEnd t n (running o)
 
 -- The answer of a sum at its end, by what it was opened for.

@@ -8,12 +8,10 @@ use lib.ListN.{length, getD, take}
 use Rattle.gf2.specs.Strings.{BitString}
 use Rattle.gf2.specs.Sums.{sum}
 use Rattle.circuit.specs.declared.Colour.{Colour}
-use Rattle.circuit.specs.declared.Gate.{Gate}
 use Rattle.circuit.specs.Colours.{sameColour, first, second, join}
 use Rattle.circuit.specs.Sum.{Basis, signedSum}
 use Rattle.slices.specs.Rank.{tally}
-use Rattle.slices.specs.Totals.{withStart}
-use Rattle.held.specs.Circuit.{Circuit, allZeros, newCircuit, withGates, withoutLast, withNewStart}
+use Rattle.held.specs.Circuit.{Circuit, newCircuit, withGates, withoutLast, withNewStart}
 use Rattle.text.specs.Spelling.{bytes, sameBytes, begins}
 use Rattle.forms.specs.declared.Class.{Class}
 use Rattle.forms.specs.declared.Class.the-variants.{Creates, Builds, TakesBack, Starts, Opens, Steps, Drops, Lists}
@@ -189,11 +187,14 @@ dropsIn (fetch f ∷ cs) = dropsIn cs
 unfoldable pub square : ℤ → ℤ
 square x = x *ℤ x
 
--- An exact readout count T (Manual 11.3): n = 3m, and 2^(3m) times T is the sum of S(s)^2 over the 2^m strings s with X and Y beside C, S being
--- the signed sum of the gates.
-pub record Exact (m : ℕ) (gates : List Gate) (C : Colour) (X Y : BitString) (t n : ℕ) : Type 0 where
-  pub exponent : n ≡ 3 * m
-  pub squares : pos (2 ^ (3 * m)) *ℤ pos t ≡ sum m (λ w. square (signedSum m gates (join C w X Y)))
+-- S(s) for a book: the signed sum of its gates, begun with the signs of its start (Manual 1.5, 1.6).
+abbrev pub sumOf : Circuit → Basis → ℤ
+sumOf b s = signedSum (b .m) (b .start) (b .gates) s
+
+-- An exact readout count T for a book (Manual 11.3): n = 3m, and 2^(3m) times T is the sum of S(s)^2 over the 2^m strings s with X and Y beside C.
+pub record Exact (b : Circuit) (C : Colour) (X Y : BitString) (t n : ℕ) : Type 0 where
+  pub exponent : n ≡ 3 * b .m
+  pub squares : pos (2 ^ (3 * b .m)) *ℤ pos t ≡ sum (b .m) (λ w. square (sumOf b (join C w X Y)))
 
 -- A call of the run that is answered `a`, where the last sum opened before it was asked for by q, and the book then held b.
 pub record Answers (calls : List Call) (a : Answer) (q : Asked) (b : Circuit) : Type 0 where
@@ -219,18 +220,18 @@ IsTotal (amp C r b g) a = (s : ℤ) × (n : ℕ) × (a ≡ bytesOf (Answer.Ampli
 IsTotal (part C x y) a = (t : ℕ) × (n : ℕ) × (a ≡ bytesOf (Answer.Readout t n))
 IsTotal (one C x) a = (t : ℕ) × (k : ℕ) × (a ≡ bytesOf (Answer.OneColour t k))
 
--- The amplitude of the last sum opened, which was an `amp` (Manual 11.6): the signed sum of the gates that the book then held, at the output string
--- with the book's start added, whichever colour was sliced.
+-- The amplitude of the last sum opened, which was an `amp` (Manual 11.6): S of the book as it was then, at the output string, whichever colour was
+-- sliced.
 pub record Amplitude (calls : List Call) (s : ℤ) (n : ℕ) : Type 0 where
   pub colour : Colour
   pub output : Basis
   pub book : Circuit
   pub latest : logOf calls .opened ≡ last (record { asked = amp colour (output .red) (output .blue) (output .green); book = book })
   pub exponent : n ≡ 3 * book .m
-  pub sum : s ≡ signedSum (book .m) (book .gates) (withStart (book .start) output)
+  pub sum : s ≡ sumOf book output
 
 -- The count of the last sum opened, which was a `one` (Manual 11.7): k = 2m, and 2^(4m) times N is the sum of S(s)^2 over the 2^(2m) strings s with
--- X on C, S being the signed sum of the gates that the book then held, at s with the book's start added.
+-- X on C, S being that of the book as it was then.
 pub record OneColour (calls : List Call) (t k : ℕ) : Type 0 where
   pub colour : Colour
   pub x : BitString
@@ -238,8 +239,7 @@ pub record OneColour (calls : List Call) (t k : ℕ) : Type 0 where
   pub latest : logOf calls .opened ≡ last (record { asked = one colour x; book = book })
   pub some : 1 ≤ book .m
   pub exponent : k ≡ 2 * book .m
-  pub squares : pos (2 ^ (4 * book .m)) *ℤ pos t ≡
-      sum (book .m) (λ u. sum (book .m) (λ v. square (signedSum (book .m) (book .gates) (withStart (book .start) (join colour x u v)))))
+  pub squares : pos (2 ^ (4 * book .m)) *ℤ pos t ≡ sum (book .m) (λ u. sum (book .m) (λ v. square (sumOf book (join colour x u v))))
 
 -- The claim about the whole run (Manual 11.3 to 11.7).
 pub record SoundRun (calls : List Call) : Type 0 where
@@ -250,16 +250,14 @@ pub record SoundRun (calls : List Call) : Type 0 where
   -- and no fetch shows the total of a sum
   pub fetched :
       (before : List Call) (f : FetchCall) (after : List Call) (q : Asked) → calls ≡ before ++ (fetch f ∷ after) → IsTotal q (shownBy f) → ⊥
-  -- every readout count is exact, where the book's start was all zeros (Manual 11.3)
+  -- every readout count is exact (Manual 11.3)
   pub exact :
-      (m : ℕ) (gates : List Gate) (C : Colour) (X Y : BitString) (t n : ℕ) →
-      Answers calls (Answer.Readout t n) (part C X Y) (record { m = m; gates = gates; start = allZeros m }) → Exact m gates C X Y t n
-  -- the counts of all pairs X, Y add up to 2^(3m) (Manual 11.4)
+      (b : Circuit) (C : Colour) (X Y : BitString) (t n : ℕ) → Answers calls (Answer.Readout t n) (part C X Y) b → Exact b C X Y t n
+  -- the counts of all pairs X, Y, under one book, add up to 2^(3m) (Manual 11.4)
   pub total :
-      (m : ℕ) (gates : List Gate) (C : Colour) (t n : BitString → BitString → ℕ) →
-      ((X Y : BitString) → length X ≡ m → length Y ≡ m →
-      Answers calls (Answer.Readout (t X Y) (n X Y)) (part C X Y) (record { m = m; gates = gates; start = allZeros m })) →
-      tally m (λ X. tally m (λ Y. t X Y)) ≡ 2 ^ (3 * m)
+      (b : Circuit) (C : Colour) (t n : BitString → BitString → ℕ) →
+      ((X Y : BitString) → length X ≡ b .m → length Y ≡ b .m → Answers calls (Answer.Readout (t X Y) (n X Y)) (part C X Y) b) →
+      tally (b .m) (λ X. tally (b .m) (λ Y. t X Y)) ≡ 2 ^ (3 * b .m)
   -- every line that asks for a sum and is answered `(left L)` finds a circuit in the book
   pub entered :
       (before : List Call) (p : LineCall) (after : List Call) (q : Asked) → calls ≡ before ++ (line p ∷ after) →
@@ -273,7 +271,7 @@ pub record SoundRun (calls : List Call) : Type 0 where
       dropsIn between ≡ false → stepsIn between < 2 ^ logOf before .book .m →
       readingOf (c .line) ≡ typed (step k) → isAccepted (answerOf c) ≡ true → 2 ^ logOf before .book .m ≤ stepsIn between + k →
       IsTotal q (answerOf c)
-  -- demand 2 at the call: every `(amp S n)` is the signed sum of the book's gates at the output string with the start added (Manual 11.6)
+  -- demand 2 at the call: every `(amp S n)` is S of the book at the output string (Manual 11.6)
   pub amplitudes :
       (before : List Call) (c : LineCall) (after : List Call) (s : ℤ) (n : ℕ) → calls ≡ before ++ (line c ∷ after) →
       answerOf c ≡ bytesOf (Answer.Amplitude s n) → Amplitude before s n
@@ -285,11 +283,10 @@ pub record SoundRun (calls : List Call) : Type 0 where
   pub oneTotal :
       (b : Circuit) (C : Colour) (t k : BitString → ℕ) →
       ((X : BitString) → length X ≡ b .m → Answers calls (Answer.OneColour (t X) (k X)) (one C X) b) → tally (b .m) t ≡ 2 ^ (2 * b .m)
-  -- 2^m times a count is the sum of the readout counts of either unread colour D over the strings Y of the third, the start being all zeros
+  -- 2^m times a count is the sum of the readout counts of either unread colour D over the strings Y of the third, all under one book
   pub oneByReadouts :
-      (m : ℕ) (gates : List Gate) (C D : Colour) (X : BitString) (t k : ℕ) (u n : BitString → ℕ) → sameColour C D ≡ false →
-      Answers calls (Answer.OneColour t k) (one C X) (record { m = m; gates = gates; start = allZeros m }) →
-      ((Y : BitString) → length Y ≡ m →
-      Answers calls (Answer.Readout (u Y) (n Y)) (part D (first D (join C X Y Y)) (second D (join C X Y Y)))
-      (record { m = m; gates = gates; start = allZeros m })) →
-      2 ^ m * t ≡ tally m u
+      (b : Circuit) (C D : Colour) (X : BitString) (t k : ℕ) (u n : BitString → ℕ) → sameColour C D ≡ false →
+      Answers calls (Answer.OneColour t k) (one C X) b →
+      ((Y : BitString) → length Y ≡ b .m →
+      Answers calls (Answer.Readout (u Y) (n Y)) (part D (first D (join C X Y Y)) (second D (join C X Y Y))) b) →
+      2 ^ b .m * t ≡ tally (b .m) u
