@@ -1,7 +1,8 @@
 //! Sums by slices for circuits that are too large for the full sum, after source document 000, equation 2.
 //!
 //! The polynomial is not built by the rule of document 01 for CNOT. The gates are gone through from the last to the first, with
-//! every position's bit written as a sum of bits of the final string; a CCZ or CZ then is a product of such sums.
+//! every position's bit written as a sum of bits of the final string; a CCZ or CZ then is a product of such sums. Before
+//! the first gate stand the signs of the starting string, each a sum of such bits.
 
 use crate::gates::{Colour, Gate, Strings, cz};
 
@@ -19,7 +20,13 @@ fn ones(word: u32) -> impl Iterator<Item = usize> {
 }
 
 impl Polynomial {
+    /// Started at zeros.
     pub fn of(m: usize, gates: &[Gate]) -> Polynomial {
+        Polynomial::started(m, [0; 3], gates)
+    }
+
+    /// A one of the starting string turns the sign where its position's bit is 1 before the first gate (02, request e).
+    pub fn started(m: usize, start: Strings, gates: &[Gate]) -> Polynomial {
         let mut polynomial = Polynomial {
             m,
             words: [[0; INDICES]; INDICES],
@@ -48,6 +55,13 @@ impl Polynomial {
                 }
             }
         }
+        for (colour, string) in start.into_iter().enumerate() {
+            for place in ones(string) {
+                let mut indices = [0; 3];
+                indices[colour] = place + 1;
+                polynomial.add(&forms, indices);
+            }
+        }
         polynomial
     }
 
@@ -64,7 +78,8 @@ impl Polynomial {
         self.words[indices[0]][indices[1]] >> indices[2] & 1 == 1
     }
 
-    /// CCZ terms by red, blue and green position, then CZ terms red-blue, red-green and blue-green.
+    /// CCZ terms by red, blue and green position, then CZ terms red-blue, red-green and blue-green. What the start has
+    /// added are terms of one position, and they are not listed.
     pub fn terms(&self) -> Vec<Gate> {
         let mut terms = Vec::new();
         for red in 1..=self.m {

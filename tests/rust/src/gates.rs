@@ -169,9 +169,9 @@ pub fn cnot(colour: Colour, control: usize, target: usize) -> Gate {
 /// One bit to every position of every colour: bit p - 1 of a word is position p of that colour.
 pub type Strings = [u32; 3];
 
-/// The starting ones added to an output string, modulo 2 (001, section I.A).
-pub fn added(output: Strings, start: Strings) -> Strings {
-    [0, 1, 2].map(|colour| output[colour] ^ start[colour])
+/// Two strings added position by position, modulo 2.
+pub fn added(first: Strings, second: Strings) -> Strings {
+    [0, 1, 2].map(|colour| first[colour] ^ second[colour])
 }
 
 /// A bit string of m digits, position 1 first.
@@ -193,4 +193,10 @@ pub fn word(digits: &str) -> u32 {
 /// Three bit strings as `amp` and `start` have them.
 pub fn spelled(m: usize, strings: Strings) -> String {
     strings.map(|word| digits(m, word)).join(" ")
+}
+
+/// The strings that are spelled so.
+pub fn strings(spelled: &str) -> Strings {
+    let words: Vec<u32> = spelled.split(' ').map(word).collect();
+    words.try_into().expect("three strings")
 }

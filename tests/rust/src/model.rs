@@ -3,7 +3,7 @@
 
 use crate::elimination::{Polynomial, one_colour, totals};
 use crate::forms::Form;
-use crate::gates::{Colour, Gate, Strings, added, word};
+use crate::gates::{Colour, Gate, Strings, word};
 use crate::layers::touches_twice;
 use crate::reference::FullSum;
 use std::fmt;
@@ -53,11 +53,60 @@ pub fn listing(terms: &[Gate]) -> Answer {
     Answer::of_terms(&terms)
 }
 
-#[derive(Clone)]
+#[derive(Clone, Debug)]
 pub struct Circuit {
     pub m: usize,
     pub gates: Vec<Gate>,
     pub start: Strings,
+}
+
+impl Circuit {
+    /// No gates, and a start of zeros.
+    pub fn empty(m: usize) -> Circuit {
+        Circuit {
+            m,
+            gates: Vec::new(),
+            start: [0; 3],
+        }
+    }
+
+    pub fn full_sum(&self) -> FullSum {
+        FullSum::started(self.m, self.start, &self.gates)
+    }
+
+    pub fn polynomial(&self) -> Polynomial {
+        Polynomial::started(self.m, self.start, &self.gates)
+    }
+
+    /// S at an output string.
+    pub fn amplitude(&self, sliced: Colour, output: Strings) -> i64 {
+        if self.m <= FULL_SUM {
+            self.full_sum().amplitude(output)
+        } else {
+            totals(&self.polynomial(), sliced, output).amplitude
+        }
+    }
+
+    pub fn readout(&self, unread: Colour, output: Strings) -> u64 {
+        if self.m <= FULL_SUM {
+            let read = unread.others().map(|colour| output[colour.number()]);
+            let counted = self.full_sum().readout(unread, read);
+            counted.expect("the squares add up to a multiple of 2^(3m)")
+        } else {
+            totals(&self.polynomial(), unread, output).readout
+        }
+    }
+
+    /// The count N of a string of the one colour that is read.
+    pub fn settings(&self, read: Colour, string: u32) -> u64 {
+        if self.m <= FULL_SUM {
+            let counted = self.full_sum().one_colour(read);
+            counted.expect("the squares add up to multiples of 2^(4m)")[string as usize]
+        } else {
+            let [sliced, _] = read.others();
+            one_colour(&self.polynomial(), read, sliced, string)
+        }
+    }
 }
 
 /// What an open sum is for, each with the colour that its line names.
@@ -80,46 +129,16 @@ struct Sum {
 impl Sum {
     /// The line after the step that ends it. Nothing is worked out before, so a sum that is dropped costs nothing.
     fn ended(&self) -> String {
-        let Circuit { m, gates, start } = &self.circuit;
-        let output = added(self.output, *start);
+        let Sum { circuit, output, .. } = self;
+        let m = circuit.m;
         match self.asked {
-            Asked::Amplitude { sliced } => format!("(amp {} {})", amplitude(*m, gates, sliced, output), 3 * m),
-            Asked::Readout { unread } => format!("(part {} {})", readout(*m, gates, unread, output), 3 * m),
+            Asked::Amplitude { sliced } => format!("(amp {} {})", circuit.amplitude(sliced, *output), 3 * m),
+            Asked::Readout { unread } => format!("(part {} {})", circuit.readout(unread, *output), 3 * m),
             Asked::OneColour { read } => {
                 let string = output[read.number()];
-                format!("(one {} {})", settings(*m, gates, read, string), 2 * m)
+                format!("(one {} {})", circuit.settings(read, string), 2 * m)
             }
         }
-    }
-}
-
-/// S at an output string.
-pub fn amplitude(m: usize, gates: &[Gate], sliced: Colour, output: Strings) -> i64 {
-    if m <= FULL_SUM {
-        FullSum::of(m, gates).amplitude(output)
-    } else {
-        totals(&Polynomial::of(m, gates), sliced, output).amplitude
-    }
-}
-
-fn readout(m: usize, gates: &[Gate], unread: Colour, output: Strings) -> u64 {
-    if m <= FULL_SUM {
-        let read = unread.others().map(|colour| output[colour.number()]);
-        let counted = FullSum::of(m, gates).readout(unread, read);
-        counted.expect("the squares add up to a multiple of 2^(3m)")
-    } else {
-        totals(&Polynomial::of(m, gates), unread, output).readout
-    }
-}
-
-/// The count N of a string of the one colour that is read.
-fn settings(m: usize, gates: &[Gate], read: Colour, string: u32) -> u64 {
-    if m <= FULL_SUM {
-        let counted = FullSum::of(m, gates).one_colour(read);
-        counted.expect("the squares add up to multiples of 2^(4m)")[string as usize]
-    } else {
-        let [sliced, _] = read.others();
-        one_colour(&Polynomial::of(m, gates), read, sliced, string)
     }
 }
 
@@ -229,11 +248,7 @@ impl Model {
     /// A form that is not refused.
     fn take(&mut self, form: Form) -> Answer {
         if let Form::Circuit(m) = form {
-            self.circuit = Some(Circuit {
-                m,
-                gates: Vec::new(),
-                start: [0; 3],
-            });
+            self.circuit = Some(Circuit::empty(m));
             return "(ok)".to_string().into();
         }
         let circuit = self.circuit.as_mut().expect("6 is tried before");

@@ -1,5 +1,6 @@
-//! The signed sum S of document 01: every one of the 2^n basis strings is carried through the gates as source document
-//! 000 describes them. Nothing is known here of phase polynomials, slices or elimination.
+//! The signed sum S of documents 01 and 02: every one of the 2^n basis strings gets its sign from the starting string
+//! and is then carried through the gates as source document 000 describes them. Nothing is known here of phase
+//! polynomials, slices or elimination, nor of what a start comes to at the end of the gates.
 
 use crate::gates::{COLOURS, Colour, Gate, Spot, Strings, cz};
 
@@ -15,10 +16,14 @@ pub fn joined(m: usize, strings: Strings) -> u32 {
     strings[0] | strings[1] << m | strings[2] << (2 * m)
 }
 
-/// The string that `y` ends as, and whether its sign was turned on the way.
-fn carry(m: usize, gates: &[Gate], y: u32) -> (u32, bool) {
+/// Whether two strings share an odd number of ones.
+fn share_odd(a: u32, b: u32) -> bool {
+    (a & b).count_ones() % 2 == 1
+}
+
+/// The string that `y` ends as, and whether its sign is turned then, if it is or is not before the first gate.
+fn carry(m: usize, gates: &[Gate], y: u32, mut turned: bool) -> (u32, bool) {
     let mut x = y;
-    let mut turned = false;
     for gate in gates {
         let one = |colour: Colour, position: usize| x >> (colour.number() * m + position - 1) & 1;
         let at = |spot: Spot| one(spot.colour, spot.position);
@@ -39,10 +44,18 @@ fn carry(m: usize, gates: &[Gate], y: u32) -> (u32, bool) {
 }
 
 impl FullSum {
+    /// Started at zeros, which turn no sign.
     pub fn of(m: usize, gates: &[Gate]) -> FullSum {
+        FullSum::started(m, [0; 3], gates)
+    }
+
+    /// "A starting string t gives each basis string y a sign before the first gate, turned where t and y share an odd
+    /// number of ones" (02, request e).
+    pub fn started(m: usize, start: Strings, gates: &[Gate]) -> FullSum {
+        let t = joined(m, start);
         let mut signs = vec![0; 1 << (3 * m)];
         for y in 0..1 << (3 * m) {
-            let (x, turned) = carry(m, gates, y);
+            let (x, turned) = carry(m, gates, y, share_odd(t, y));
             signs[x as usize] += if turned { -1 } else { 1 };
         }
         FullSum { m, signs }
@@ -50,10 +63,9 @@ impl FullSum {
 
     /// S at an output string.
     pub fn amplitude(&self, output: Strings) -> i64 {
-        let s = joined(self.m, output) as usize;
-        let turned = |x: usize| (x & s).count_ones() % 2 == 1;
-        let signed = |(x, &sign): (usize, &i64)| if turned(x) { -sign } else { sign };
-        self.signs.iter().enumerate().map(signed).sum()
+        let s = joined(self.m, output);
+        let signed = |(x, &sign): (u32, &i64)| if share_odd(s, x) { -sign } else { sign };
+        (0..).zip(&self.signs).map(signed).sum()
     }
 
     /// The readout count T by squares: 2^(3m) T is the sum of S^2 over the strings of the unread colour.
@@ -118,7 +130,8 @@ impl FullSum {
     }
 
     /// The terms of the phase polynomial, read off the signs: the polynomial whose value at x is 1 where the sign at x is
-    /// turned. None if it has a term that document 01 does not know.
+    /// turned. None if it has a term that document 01 does not know, as it does with a start other than zeros: `terms`
+    /// is for the gates alone.
     pub fn terms(&self) -> Option<Vec<Gate>> {
         let mut coefficients: Vec<bool> = self.signs.iter().map(|&sign| sign < 0).collect();
         for place in 0..3 * self.m {

@@ -1,10 +1,12 @@
-//! Random circuits with all gates, layers, undos and starting strings, every colour sliced, against the full sum.
+//! Random circuits with all gates, layers, undos and starting strings at any place, every colour sliced, against the
+//! full sum.
 
 use crate::Checks;
 use crate::grammar::covered;
-use waitfield_checks::gates::{COLOURS, Gate, Strings, added, spelled};
+use crate::starts::{carried, start_line};
+use waitfield_checks::gates::{COLOURS, Gate, spelled};
 use waitfield_checks::layers::{layer, layers, touches_twice};
-use waitfield_checks::model::listing;
+use waitfield_checks::model::{Circuit, listing};
 use waitfield_checks::random::Random;
 use waitfield_checks::reference::FullSum;
 use waitfield_checks::script::Script;
@@ -13,7 +15,7 @@ use waitfield_checks::script::Script;
 const CIRCUITS: usize = 60;
 
 /// What the circuits of a seed must have met to mean something.
-const MET: [&str; 4] = ["(amp -", "(no 7)", "(no 12)", "(no 14)"];
+const MET: [&str; 5] = ["(amp -", "(no 7)", "(no 11)", "(no 12)", "(no 14)"];
 
 /// Lines that an open sum turns back, with their refusals; none changes it.
 const BETWEEN: [(&str, &str); 13] = [
@@ -65,13 +67,13 @@ pub fn in_layers(script: &mut Script, gates: &[Gate]) {
     layers.iter().for_each(|gates| script.say(layer(gates), "(ok)"));
 }
 
-/// Lines that build a circuit, its gates and its starting string.
-pub fn build(script: &mut Script, random: &mut Random, m: usize) -> (Vec<Gate>, Strings) {
-    let mut gates = Vec::new();
-    let mut start = [0; 3];
+/// Lines that build a circuit, some of them refused, its starts before, between and behind the gates.
+pub fn build(script: &mut Script, random: &mut Random, m: usize) -> Circuit {
+    let mut circuit = Circuit::empty(m);
+    let Circuit { gates, start, .. } = &mut circuit;
     script.line(format!("(circuit {m})"), "(ok)".to_string());
-    for _ in 0..random.below(16) {
-        match random.below(8) {
+    for _ in 0..random.below(20) {
+        match random.below(10) {
             0..=3 => {
                 let gate = random.gate(m);
                 script.say(gate.to_string(), "(ok)");
@@ -96,23 +98,30 @@ pub fn build(script: &mut Script, random: &mut Random, m: usize) -> (Vec<Gate>, 
                 script.say(format!("(undo {k})"), if taken { "(ok)" } else { "(no 12)" });
                 gates.truncate(if taken { gates.len() - k } else { gates.len() });
             }
+            7 => refused_start(script, random, m),
             _ => {
-                start = random.strings(m);
-                script.say(format!("(start {})", spelled(m, start)), "(ok)");
+                *start = random.strings(m);
+                script.say(start_line(m, *start), "(ok)");
             }
         }
     }
-    (gates, start)
+    circuit
 }
 
+/// A start with one digit too many in each string.
+fn refused_start(script: &mut Script, random: &mut Random, m: usize) {
+    script.say(start_line(m + 1, random.strings(m + 1)), "(no 11)");
+}
+
+/// The output strings are the start as it was given, and as it ends, where a sum is most often not 0, and any.
 fn circuit(script: &mut Script, random: &mut Random, m: usize) {
-    let (gates, start) = build(script, random, m);
-    let full = FullSum::of(m, &gates);
-    let terms = full.terms().expect("the reference's own checks say so");
-    script.line("(terms)", listing(&terms));
-    for number in 0..4 {
-        let output = if number == 0 { start } else { random.strings(m) };
-        let s = full.amplitude(added(output, start));
+    let circuit = build(script, random, m);
+    let terms = FullSum::of(m, &circuit.gates).terms();
+    script.line("(terms)", listing(&terms.expect("the reference's own checks say so")));
+    let full = circuit.full_sum();
+    let ends = carried(circuit.start, &circuit.gates);
+    for output in [circuit.start, ends, random.strings(m), random.strings(m)] {
+        let s = full.amplitude(output);
         for colour in COLOURS {
             let line = format!("(amp {colour} {})", spelled(m, output));
             sum(script, random, m, line, format!("(amp {s} {})", 3 * m));
@@ -122,11 +131,10 @@ fn circuit(script: &mut Script, random: &mut Random, m: usize) {
 
 /// Every output string of one position a colour.
 fn smallest(script: &mut Script, random: &mut Random) {
-    let (gates, start) = build(script, random, 1);
-    let full = FullSum::of(1, &gates);
+    let full = build(script, random, 1).full_sum();
     for string in 0..8 {
         let output = [string & 1, string >> 1 & 1, string >> 2];
-        let s = full.amplitude(added(output, start));
+        let s = full.amplitude(output);
         for colour in COLOURS {
             let line = format!("(amp {colour} {})", spelled(1, output));
             sum(script, random, 1, line, format!("(amp {s} 3)"));

@@ -1,9 +1,9 @@
-//! The worked listing, the known sums and the edges, as document 01 gives them.
+//! The worked listing, the known sums and the edges, as documents 01 and 02 give them.
 
 use crate::Checks;
 use waitfield_checks::circuits::every_position;
 use waitfield_checks::gates::Colour::{Blue, Red};
-use waitfield_checks::gates::{COLOURS, Gate, cz};
+use waitfield_checks::gates::{COLOURS, Gate, cnot, cz};
 use waitfield_checks::layers::layer;
 use waitfield_checks::model::listing;
 use waitfield_checks::script::Script;
@@ -22,6 +22,8 @@ pub const LISTING: [(&str, &str); 9] = [
 
 pub struct Known {
     pub m: usize,
+    /// None where it is left at zeros.
+    pub start: Option<&'static str>,
     pub gates: Vec<Gate>,
     /// Output strings and their S.
     pub sums: &'static [(&'static str, i64)],
@@ -40,11 +42,13 @@ const CNOT: Gate = Gate::Cnot {
 };
 
 pub fn known_sums() -> Vec<Known> {
-    let known = |m, gates: &[Gate], sums| Known {
+    let started = |m, start, gates: &[Gate], sums| Known {
         m,
+        start,
         gates: gates.to_vec(),
         sums,
     };
+    let known = |m, gates: &[Gate], sums| started(m, None, gates, sums);
     vec![
         known(1, &[], &[("0 0 0", 8), ("1 0 0", 0)]),
         known(1, &[CCZ], &[("0 0 0", 6), ("1 0 0", 2), ("1 1 0", -2), ("1 1 1", 2)]),
@@ -52,14 +56,21 @@ pub fn known_sums() -> Vec<Known> {
         known(1, &[cz(Red, 1, Blue, 1)], &[("0 0 0", 4), ("1 1 0", -4), ("0 0 1", 0)]),
         known(2, &[CCZ, CNOT], &[("00 00 00", 48), ("11 00 00", 16), ("10 00 00", 0)]),
         known(2, &[CNOT, CCZ], &[("10 00 00", 16), ("11 00 00", 0)]),
+        // The case of document 02, request e.
+        started(
+            2,
+            Some("01 00 00"),
+            &[cnot(Red, 1, 2)],
+            &[("11 00 00", 64), ("01 00 00", 0)],
+        ),
     ]
 }
 
 /// Readout counts for m = 1 and one CCZ, red unread.
 const COUNTS: [(&str, u64); 4] = [("0 0", 5), ("0 1", 1), ("1 0", 1), ("1 1", 1)];
 
-/// Counts N for m = 1 and one CCZ, green read: the start, the string of green, N. The start's ones of green are added
-/// to the string, those of the unread colours do not matter.
+/// Counts N for m = 1 and one CCZ, green read: the start, the string of green, N. With a start of 1 green's bit turns
+/// the sign once more, so 0 and 1 change places; the ones of the unread colours do not matter.
 pub const ONE_COLOUR: [(&str, &str, u64); 5] = [
     ("0 0 0", "0", 3),
     ("0 0 0", "1", 1),
@@ -68,17 +79,26 @@ pub const ONE_COLOUR: [(&str, &str, u64); 5] = [
     ("1 0 1", "1", 3),
 ];
 
+/// A known sum with every colour sliced.
+fn known_sum(script: &mut Script, known: &Known, output: &str, s: i64) {
+    let Known { m, start, gates, .. } = known;
+    for colour in COLOURS {
+        script.case(format!("S at {output} after {start:?} {gates:?}, sliced on {colour}"));
+        script.say(format!("(circuit {m})"), "(ok)");
+        if let Some(start) = start {
+            script.say(format!("(start {start})"), "(ok)");
+        }
+        gates.iter().for_each(|gate| script.say(gate.to_string(), "(ok)"));
+        script.line(format!("(amp {colour} {output})"), format!("(left {})", 1 << m));
+        script.line("(step 65536)", format!("(amp {s} {})", 3 * m));
+    }
+}
+
 fn sums(checks: &mut Checks) {
     let mut script = Script::default();
-    for Known { m, gates, sums } in known_sums() {
-        for &(output, s) in sums {
-            for colour in COLOURS {
-                script.case(format!("S at {output} after {gates:?}, sliced on {colour}"));
-                script.say(format!("(circuit {m})"), "(ok)");
-                gates.iter().for_each(|gate| script.say(gate.to_string(), "(ok)"));
-                script.line(format!("(amp {colour} {output})"), format!("(left {})", 1 << m));
-                script.line("(step 65536)", format!("(amp {s} {})", 3 * m));
-            }
+    for known in known_sums() {
+        for &(output, s) in known.sums {
+            known_sum(&mut script, &known, output, s);
         }
     }
     for (read, count) in COUNTS {

@@ -1,6 +1,7 @@
 //! Circuits of 13 to 16 positions a colour: slices of rank 13 and more, by the independent elimination and in closed form.
 
 use crate::Checks;
+use crate::starts::{carried, start_line};
 use waitfield_checks::circuits::{block_ccz, full_rank, hypercube, in_blocks};
 use waitfield_checks::elimination::{Polynomial, totals};
 use waitfield_checks::gates::Colour::{Blue, Green, Red};
@@ -36,9 +37,12 @@ fn count(script: &mut Script, m: usize, unread: Colour, output: Strings, t: u64)
     script.line("(step 65536)", format!("(part {t} {})", 3 * m));
 }
 
-/// A circuit whose amplitudes and counts the elimination gives.
-fn eliminated(checks: &mut Checks, name: &str, m: usize, layers: &[Vec<Gate>], output: Strings) {
-    let polynomial = Polynomial::of(m, &layers.concat());
+/// A start, and the output string that is asked for.
+type Ends = (Strings, Strings);
+
+/// A circuit whose amplitudes and counts the elimination gives. Its start is given half way through.
+fn eliminated(checks: &mut Checks, name: &str, m: usize, layers: &[Vec<Gate>], (start, output): Ends) {
+    let polynomial = Polynomial::started(m, start, &layers.concat());
     let sliced = COLOURS.map(|colour| totals(&polynomial, colour, output));
     let high = sliced
         .each_ref()
@@ -53,7 +57,9 @@ fn eliminated(checks: &mut Checks, name: &str, m: usize, layers: &[Vec<Gate>], o
         .equal(&format!("{name}: the elimination on each colour"), amplitudes, [s; 3]);
     let mut script = Script::default();
     script.case(format!("{name}: circuit"));
-    circuit(&mut script, m, layers);
+    let mut lines = layers::circuit(m, layers);
+    lines.insert(1 + layers.len() / 2, start_line(m, start));
+    lines.iter().for_each(|line| script.say(line, "(ok)"));
     script.line("(terms)", listing(&polynomial.terms()));
     for (colour, totals) in COLOURS.into_iter().zip(sliced) {
         script.case(format!("{name}: amplitude sliced on {colour}"));
@@ -126,25 +132,18 @@ pub fn check(checks: &mut Checks) {
         let mut random = Random::new(seed);
         for m in 13..=16 {
             let layers = layers(&random.gates(m, DENSE));
-            let output = random.strings(m);
-            eliminated(
-                checks,
-                &format!("dense circuit, seed {seed}, m = {m}"),
-                m,
-                &layers,
-                output,
-            );
+            let ends = (random.strings(m), random.strings(m));
+            let name = format!("dense circuit, seed {seed}, m = {m}");
+            eliminated(checks, &name, m, &layers, ends);
         }
-        let output = random.strings(16);
-        eliminated(
-            checks,
-            &format!("full rank, seed {seed}"),
-            16,
-            &full_rank(16, seed),
-            output,
-        );
+        let ends = (random.strings(16), random.strings(16));
+        let name = format!("full rank, seed {seed}");
+        eliminated(checks, &name, 16, &full_rank(16, seed), ends);
     }
-    eliminated(checks, "hypercube", 16, &hypercube(4), [0; 3]);
+    // At most other strings all slices of high rank are 0.
+    let start = [0x8001, 0x00f0, 0x1234];
+    let ends = (start, carried(start, &hypercube(4).concat()));
+    eliminated(checks, "hypercube", 16, &hypercube(4), ends);
     let polynomial = Polynomial::of(16, &full_rank(16, 48).concat());
     let ranks = totals(&polynomial, Red, [0; 3]).ranks;
     checks

@@ -4,12 +4,13 @@
 use crate::Checks;
 use crate::circuits::in_layers;
 use crate::refusals::model_agrees;
+use crate::starts::{carried, start_line, started};
 use std::collections::BTreeSet;
 use waitfield_checks::circuits::{block_ccz, every_position, in_blocks};
 use waitfield_checks::elimination::Polynomial;
 use waitfield_checks::gates::{COLOURS, Colour, Gate, Spot, cnot, cz, spelled};
 use waitfield_checks::layers::layer;
-use waitfield_checks::model::{HISTORY, amplitude, listing};
+use waitfield_checks::model::{Circuit, HISTORY, listing};
 use waitfield_checks::random::Random;
 use waitfield_checks::reference::FullSum;
 use waitfield_checks::script::Script;
@@ -46,12 +47,15 @@ fn share_a_position(first: Gate, second: Gate) -> bool {
 }
 
 /// Terms and some amplitudes, by the full sum.
-fn seen(script: &mut Script, m: usize, gates: &[Gate]) {
-    let full = FullSum::of(m, gates);
-    let terms = full.terms().expect("the reference's own checks say so");
-    script.line("(terms)", listing(&terms));
+fn seen(script: &mut Script, circuit: &Circuit) {
+    let m = circuit.m;
+    let terms = FullSum::of(m, &circuit.gates).terms();
+    script.line("(terms)", listing(&terms.expect("the reference's own checks say so")));
+    let full = circuit.full_sum();
     let all = (1 << m) - 1;
-    for (colour, output) in COLOURS.into_iter().zip([[0; 3], [all; 3], [1, all - 1, 1]]) {
+    let ends = carried(circuit.start, &circuit.gates);
+    let outputs = [ends, [all; 3], [1, all - 1, 1]];
+    for (colour, output) in COLOURS.into_iter().zip(outputs) {
         let s = full.amplitude(output);
         script.line(
             format!("(amp {colour} {})", spelled(m, output)),
@@ -63,26 +67,27 @@ fn seen(script: &mut Script, m: usize, gates: &[Gate]) {
 
 /// Two gates as a layer behind others. Where it is taken, what is expected is the sum of one order, whichever was
 /// given; where it is refused, what was held before.
-fn pair(script: &mut Script, m: usize, held: &[Gate], first: Gate, second: Gate) {
-    let mut gates = held.to_vec();
+fn pair(script: &mut Script, held: &Circuit, first: Gate, second: Gate) {
+    let mut circuit = held.clone();
     let refused = share_a_position(first, second);
-    script.case(format!("a layer of {first} and {second}, m = {m}"));
-    script.line(format!("(circuit {m})"), "(ok)".to_string());
-    in_layers(script, held);
+    script.case(format!("a layer of {first} and {second}, m = {}", held.m));
+    script.line(format!("(circuit {})", held.m), "(ok)".to_string());
+    script.say(start_line(held.m, held.start), "(ok)");
+    in_layers(script, &held.gates);
     script.say(layer(&[first, second]), answered(refused));
     if !refused {
         let mut taken = [first, second];
         taken.sort_by_key(Gate::to_string);
-        gates.extend(taken);
+        circuit.gates.extend(taken);
     }
-    seen(script, m, &gates);
-    script.say(format!("(undo {})", gates.len()), "(ok)");
+    seen(script, &circuit);
+    script.say(format!("(undo {})", circuit.gates.len()), "(ok)");
     script.say("(undo 1)", "(no 12)");
 }
 
-/// Every two gates in both orders, and every gate beside itself. So many of them must share no position.
+/// Every two gates in both orders, and every gate beside itself, under a start. So many of them must share no position.
 fn every_pair(checks: &mut Checks, m: usize, apart: usize) {
-    let held = Random::new(m as u64).gates(m, 6);
+    let held = started(&mut Random::new(m as u64), m, 6);
     let gates = every_gate(m);
     let pairs: Vec<(Gate, Gate)> = gates
         .iter()
@@ -90,7 +95,7 @@ fn every_pair(checks: &mut Checks, m: usize, apart: usize) {
         .collect();
     let mut script = Script::default();
     for &(first, second) in &pairs {
-        pair(&mut script, m, &held, first, second);
+        pair(&mut script, &held, first, second);
     }
     checks.run(&script);
     model_agrees(checks, &script, &format!("every two gates, m = {m}"));
@@ -207,21 +212,30 @@ fn all_positions(checks: &mut Checks) {
     model_agrees(checks, &script, "24 and 25 gates");
 }
 
-/// A random layer behind random gates, as it was drawn, backwards, and in other orders.
+/// A random layer behind random gates, as it was drawn, backwards, and in other orders. The start is given before all
+/// gates or behind them.
 fn orders(script: &mut Script, random: &mut Random, m: usize, name: &str) {
     let before = random.gates(m, 24 * m);
     let drawn = random.layer(m, MANY);
     let all = [&before[..], &drawn].concat();
     let [without, with] = [&before, &all].map(|gates| listing(&Polynomial::of(m, gates).terms()));
+    let start = random.strings(m);
     let (colour, output) = (random.colour(), random.strings(m));
-    let s = amplitude(m, &all, colour, output);
+    let gates = all;
+    let s = Circuit { m, gates, start }.amplitude(colour, output);
     let mut orders = vec![drawn.clone(), drawn.iter().rev().copied().collect()];
     orders.extend((0..ORDERS).map(|_| random.shuffled(&drawn)));
     for (number, gates) in orders.iter().enumerate() {
         script.case(format!("{name}, order {number}"));
         script.line(format!("(circuit {m})"), "(ok)".to_string());
+        if number % 2 == 0 {
+            script.say(start_line(m, start), "(ok)");
+        }
         in_layers(script, &before);
         script.say(layer(gates), "(ok)");
+        if number % 2 == 1 {
+            script.say(start_line(m, start), "(ok)");
+        }
         script.line("(terms)", with.clone());
         script.line(
             format!("(amp {colour} {})", spelled(m, output)),

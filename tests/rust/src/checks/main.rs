@@ -16,6 +16,7 @@ mod one_colour;
 mod own;
 mod readouts;
 mod refusals;
+mod starts;
 mod streams;
 
 use std::process::ExitCode;
@@ -84,6 +85,7 @@ groups! {
     "random circuits": circuits,
     "readout counts": readouts,
     "one colour read": one_colour,
+    "starting strings": starts,
     "middle circuits": middle,
     "large circuits": large,
     "refusals": refusals,

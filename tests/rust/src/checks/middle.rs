@@ -1,12 +1,13 @@
 //! Circuits of 5 to 12 positions a colour, where the full sum takes too long: random circuits, sparse and dense, with
-//! every colour sliced and every colour unread, against the independent elimination.
+//! starts at any place, every colour sliced and every colour unread, against the independent elimination.
 
 use crate::Checks;
 use crate::circuits::{build, in_layers, sum};
 use crate::grammar::covered;
-use waitfield_checks::elimination::{Polynomial, Totals, totals};
-use waitfield_checks::gates::{COLOURS, Colour, Gate, Strings, added, digits, spelled};
-use waitfield_checks::model::listing;
+use crate::starts::carried;
+use waitfield_checks::elimination::{Totals, totals};
+use waitfield_checks::gates::{COLOURS, Colour, Strings, digits, spelled};
+use waitfield_checks::model::{Circuit, listing};
 use waitfield_checks::random::Random;
 use waitfield_checks::script::Script;
 
@@ -22,20 +23,22 @@ const THICK: usize = 288;
 const MET: [&str; 2] = ["(amp -", "(no 7)"];
 
 /// Many layers behind a circuit, and some of their gates taken back.
-pub fn thicken(script: &mut Script, random: &mut Random, m: usize, gates: &mut Vec<Gate>) {
-    let several = random.gates(m, THICK);
+pub fn thicken(script: &mut Script, random: &mut Random, circuit: &mut Circuit) {
+    let several = random.gates(circuit.m, THICK);
     in_layers(script, &several);
-    gates.extend(several);
+    circuit.gates.extend(several);
     let k = 1 + random.below(48);
     script.say(format!("(undo {k})"), "(ok)");
-    gates.truncate(gates.len() - k);
+    circuit.gates.truncate(circuit.gates.len() - k);
 }
 
-/// The output string that is the start, one that differs from it in one place, and any.
-fn outputs(random: &mut Random, m: usize, start: Strings) -> [Strings; 3] {
-    let mut beside = start;
-    beside[random.below(3)] ^= 1 << random.below(m);
-    [start, beside, random.strings(m)]
+/// The start as it was given, and as it ends, a string that differs from that in one place, and any.
+fn outputs(random: &mut Random, circuit: &Circuit) -> [Strings; 4] {
+    let Circuit { m, gates, start } = circuit;
+    let ends = carried(*start, gates);
+    let mut beside = ends;
+    beside[random.below(3)] ^= 1 << random.below(*m);
+    [*start, ends, beside, random.strings(*m)]
 }
 
 /// The amplitude sliced on a colour and the readout count with that colour unread, both in steps of random sizes.
@@ -49,16 +52,16 @@ fn sums(script: &mut Script, random: &mut Random, m: usize, colour: Colour, outp
 
 /// One circuit with its terms and sums. The slices of each rank are added to `ranks`.
 fn circuit(checks: &mut Checks, script: &mut Script, random: &mut Random, m: usize, dense: bool, ranks: &mut [usize]) {
-    let (mut gates, start) = build(script, random, m);
+    let mut circuit = build(script, random, m);
     if dense {
-        thicken(script, random, m, &mut gates);
+        thicken(script, random, &mut circuit);
     }
-    let polynomial = Polynomial::of(m, &gates);
+    let polynomial = circuit.polynomial();
     script.line("(terms)", listing(&polynomial.terms()));
-    for output in outputs(random, m, start) {
-        let sliced = COLOURS.map(|colour| totals(&polynomial, colour, added(output, start)));
+    for output in outputs(random, &circuit) {
+        let sliced = COLOURS.map(|colour| totals(&polynomial, colour, output));
         let amplitudes = sliced.each_ref().map(|totals| totals.amplitude);
-        let name = format!("the elimination on each colour, m = {m}, at {output:x?} after {gates:?}");
+        let name = format!("the elimination on each colour at {output:x?} after {circuit:?}");
         checks.tally.equal(&name, amplitudes, [amplitudes[0]; 3]);
         for (colour, totals) in COLOURS.into_iter().zip(&sliced) {
             sums(script, random, m, colour, output, totals);

@@ -6,12 +6,14 @@ use crate::circuits::{build, in_layers, sum};
 use crate::grammar::covered;
 use crate::large::{DENSE, circuit};
 use crate::middle::{SIZES, thicken};
-use crate::readouts::{counted, given, part};
+use crate::readouts::{counted, part};
+use crate::starts::{carried, given_anywhere, start_line, started};
 use waitfield_checks::circuits::{block_ccz, full_rank, hypercube, in_blocks};
 use waitfield_checks::elimination::{Polynomial, one_colour};
 use waitfield_checks::gates::Colour::{Blue, Green, Red};
-use waitfield_checks::gates::{COLOURS, Colour, Gate, Strings, added, cz, digits, spelled};
+use waitfield_checks::gates::{COLOURS, Colour, Gate, Strings, cz, digits, spelled};
 use waitfield_checks::layers::layers;
+use waitfield_checks::model::Circuit;
 use waitfield_checks::program::Program;
 use waitfield_checks::random::Random;
 use waitfield_checks::reference::FullSum;
@@ -33,66 +35,81 @@ fn ended(m: usize, count: u64) -> String {
 }
 
 /// The line that opens a sum, and the answer that ends it.
-type Asked = [String; 2];
+pub type Asked = [String; 2];
 
 /// Every string of every colour, as the squares of the full sum say.
-fn every_string(m: usize, gates: &[Gate], start: Strings) -> Vec<Asked> {
-    let full = FullSum::of(m, gates);
+fn every_string(m: usize, full: &FullSum) -> Vec<Asked> {
     let strings = |read: Colour| {
         let counts = full.one_colour(read).expect("the reference's own checks say so");
-        let shift = start[read.number()];
-        let asked = move |string| [one(m, read, string), ended(m, counts[(string ^ shift) as usize])];
+        let asked = move |string| [one(m, read, string), ended(m, counts[string as usize])];
         (0..1 << m).map(asked)
     };
     COLOURS.into_iter().flat_map(strings).collect()
 }
 
-/// One circuit, asked for every string, then with gates taken back, and with others in their place.
+/// One circuit, asked for every string, then with gates taken back, with others in their place, and with another start.
 fn small(script: &mut Script, random: &mut Random, m: usize) {
-    let (mut gates, start) = build(script, random, m);
-    let ask = |script: &mut Script, random: &mut Random, gates: &[Gate]| {
-        for [line, answer] in every_string(m, gates, start) {
+    let mut circuit = build(script, random, m);
+    let ask = |script: &mut Script, random: &mut Random, circuit: &Circuit| {
+        for [line, answer] in every_string(m, &circuit.full_sum()) {
             sum(script, random, m, line, answer);
         }
     };
-    ask(script, random, &gates);
-    if !gates.is_empty() {
-        let k = 1 + random.below(gates.len());
+    ask(script, random, &circuit);
+    if !circuit.gates.is_empty() {
+        let k = 1 + random.below(circuit.gates.len());
         script.say(format!("(undo {k})"), "(ok)");
-        gates.truncate(gates.len() - k);
-        ask(script, random, &gates);
+        circuit.gates.truncate(circuit.gates.len() - k);
+        ask(script, random, &circuit);
     }
     let several = random.gates(m, 5);
     in_layers(script, &several);
-    gates.extend(several);
-    ask(script, random, &gates);
+    circuit.gates.extend(several);
+    ask(script, random, &circuit);
+    circuit.start = random.strings(m);
+    script.say(start_line(m, circuit.start), "(ok)");
+    ask(script, random, &circuit);
 }
 
-/// An amplitude, a readout count and a count with one colour read, all at random strings.
-fn one_of_each(random: &mut Random, full: &FullSum, m: usize, start: Strings) -> [Asked; 3] {
-    let (colour, output) = (random.colour(), random.strings(m));
-    let shifted = added(output, start);
-    let [read, read_shifted] = [output, shifted].map(|strings| colour.others().map(|other| strings[other.number()]));
-    let said = "the reference's own checks say so";
-    let s = full.amplitude(shifted);
-    let t = full.readout(colour, read_shifted).expect(said);
-    let n = full.one_colour(colour).expect(said)[shifted[colour.number()] as usize];
+/// The lines that open an amplitude sliced on a colour, a readout count with that colour unread, and a count with only
+/// that colour read.
+pub fn opened(m: usize, colour: Colour, output: Strings) -> [String; 3] {
+    let read = colour.others().map(|other| output[other.number()]);
     [
-        [
-            format!("(amp {colour} {})", spelled(m, output)),
-            format!("(amp {s} {})", 3 * m),
-        ],
-        [part(m, colour, read), format!("(part {t} {})", 3 * m)],
-        [one(m, colour, output[colour.number()]), ended(m, n)],
+        format!("(amp {colour} {})", spelled(m, output)),
+        part(m, colour, read),
+        one(m, colour, output[colour.number()]),
     ]
+}
+
+/// The answers that end them.
+pub fn ends(m: usize, s: i64, t: u64, n: u64) -> [String; 3] {
+    [
+        format!("(amp {s} {})", 3 * m),
+        format!("(part {t} {})", 3 * m),
+        ended(m, n),
+    ]
+}
+
+/// One of each kind, by the full sum or the elimination.
+pub fn one_of_each(circuit: &Circuit, colour: Colour, output: Strings) -> [Asked; 3] {
+    let (s, t) = (circuit.amplitude(colour, output), circuit.readout(colour, output));
+    let n = circuit.settings(colour, output[colour.number()]);
+    paired(opened(circuit.m, colour, output), ends(circuit.m, s, t, n))
+}
+
+pub fn paired(lines: [String; 3], answers: [String; 3]) -> [Asked; 3] {
+    let [amp, part, one] = lines;
+    let [s, t, n] = answers;
+    [[amp, s], [part, t], [one, n]]
 }
 
 /// A sum of each kind dropped before its last slice, and one of each kind after it, which is as if nothing had been.
 fn dropped(script: &mut Script, random: &mut Random, m: usize) {
-    let (gates, start) = build(script, random, m);
-    let full = FullSum::of(m, &gates);
-    for [line, _] in one_of_each(random, &full, m, start) {
-        for [next, answer] in one_of_each(random, &full, m, start) {
+    let circuit = build(script, random, m);
+    let any = |random: &mut Random| one_of_each(&circuit, random.colour(), random.strings(m));
+    for [line, _] in any(random) {
+        for [next, answer] in any(random) {
             let worked = 1 + random.below((1 << m) - 1);
             script.line(&line, format!("(left {})", 1 << m));
             script.line(format!("(step {worked})"), format!("(left {})", (1 << m) - worked));
@@ -133,7 +150,7 @@ fn readouts(m: usize, read: Colour, unread: Colour) -> Vec<String> {
 /// The program's own counts beside its readouts: N / 2^(2m) is the sum of the T / 2^(3m).
 fn by_readouts(program: &Program, m: usize, before: &str, read: Colour, unread: Colour) -> Result<(), String> {
     let counts = all_counts(program, m, before, read)?;
-    let readouts = counted(program, before, &readouts(m, read, unread), "part", 3 * m)?;
+    let readouts: Vec<u64> = counted(program, before, &readouts(m, read, unread), "part", 3 * m)?;
     let sums: Vec<u64> = readouts.chunks(1 << m).map(|several| several.iter().sum()).collect();
     match sums.iter().copied().eq(counts.iter().map(|count| count << m)) {
         true => Ok(()),
@@ -141,11 +158,11 @@ fn by_readouts(program: &Program, m: usize, before: &str, read: Colour, unread: 
     }
 }
 
-/// Either of the other two colours unread.
+/// Either of the other two colours unread, under one start for both kinds of counts.
 fn all_by_readouts(checks: &mut Checks, random: &mut Random, seed: u64) {
     for m in 1..=4 {
-        let gates = random.gates(m, 8 * m);
-        let before = format!("{}(start {})\n", given(m, &gates), spelled(m, random.strings(m)));
+        let circuit = started(random, m, 8 * m);
+        let before = given_anywhere(random, &circuit);
         for read in COLOURS {
             for unread in read.others() {
                 let name = format!("2^m N by readouts, seed {seed}, m = {m}, {read} read, {unread} unread");
@@ -156,10 +173,11 @@ fn all_by_readouts(checks: &mut Checks, random: &mut Random, seed: u64) {
     }
 }
 
-/// The program's own counts of all strings add up to 2^(2m), whatever the circuit.
+/// The program's own counts of all strings under one start add up to 2^(2m), whatever the circuit.
 fn totals(checks: &mut Checks, random: &mut Random, seed: u64) {
     for m in 1..=8 {
-        let before = given(m, &random.gates(m, 12 * m));
+        let circuit = started(random, m, 12 * m);
+        let before = given_anywhere(random, &circuit);
         for read in COLOURS {
             let name = format!("counts add up to 2^(2m), seed {seed}, m = {m}, {read} read");
             let found = all_counts(&checks.program, m, &before, read).map(|counts| counts.iter().sum());
@@ -176,21 +194,21 @@ fn eliminated(checks: &mut Checks, name: &str, polynomial: &Polynomial, read: Co
     first
 }
 
-/// Circuits of one m, each colour asked for the string that is its start and for any other.
+/// Circuits of one m, each colour asked for the string that is its start as it was given, as it ends, and for any other.
 fn middle(checks: &mut Checks, random: &mut Random, seed: u64, m: usize) {
     let mut script = Script::default();
     for number in 0..MIDDLE {
         let name = format!("seed {seed}, m = {m}, circuit {number}");
         script.case(&name);
-        let (mut gates, start) = build(&mut script, random, m);
+        let mut circuit = build(&mut script, random, m);
         if number % 2 == 1 {
-            thicken(&mut script, random, m, &mut gates);
+            thicken(&mut script, random, &mut circuit);
         }
-        let polynomial = Polynomial::of(m, &gates);
+        let polynomial = circuit.polynomial();
+        let strings = [circuit.start, carried(circuit.start, &circuit.gates), random.strings(m)];
         for read in COLOURS {
-            let shift = start[read.number()];
-            for string in [shift, random.string(m)] {
-                let count = eliminated(checks, &name, &polynomial, read, string ^ shift);
+            for string in strings.map(|strings| strings[read.number()]) {
+                let count = eliminated(checks, &name, &polynomial, read, string);
                 sum(&mut script, random, m, one(m, read, string), ended(m, count));
             }
         }
@@ -211,15 +229,15 @@ fn large(script: &mut Script, m: usize, read: Colour, string: u32, count: u64) {
 
 /// A circuit whose counts the elimination gives, with slices on either unread colour, and a starting string.
 fn large_circuit(checks: &mut Checks, random: &mut Random, name: &str, m: usize, layers: &[Vec<Gate>]) {
-    let polynomial = Polynomial::of(m, &layers.concat());
     let start = random.strings(m);
+    let polynomial = Polynomial::started(m, start, &layers.concat());
     let mut script = Script::default();
     script.case(format!("{name}: circuit"));
     circuit(&mut script, m, layers);
-    script.say(format!("(start {})", spelled(m, start)), "(ok)");
+    script.say(start_line(m, start), "(ok)");
     for read in COLOURS {
         let (string, sliced) = (random.string(m), random.pick(&read.others()));
-        let count = one_colour(&polynomial, read, sliced, string ^ start[read.number()]);
+        let count = one_colour(&polynomial, read, sliced, string);
         script.case(format!("{name}: {read} read"));
         large(&mut script, m, read, string, count);
     }

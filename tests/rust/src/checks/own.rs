@@ -4,9 +4,10 @@
 use crate::Checks;
 use crate::known::{LISTING, ONE_COLOUR, known_sums};
 use crate::listings::every_term;
+use crate::starts::{carried, started};
 use std::fmt::Debug;
 use waitfield_checks::elimination::{Polynomial, one_colour, totals};
-use waitfield_checks::gates::{COLOURS, Colour, Gate, Spot, Strings, word};
+use waitfield_checks::gates::{COLOURS, Colour, Gate, Spot, strings};
 use waitfield_checks::layers::{layers, touches_twice};
 use waitfield_checks::model::{Answer, Model, listing};
 use waitfield_checks::random::Random;
@@ -18,11 +19,6 @@ const CIRCUITS: [(usize, usize); 6] = [(1, 25), (2, 25), (3, 25), (4, 25), (5, 1
 
 /// The largest m at which all readout counts of the full sum are added up.
 const READOUTS: usize = 3;
-
-fn strings(text: &str) -> Strings {
-    let words: Vec<u32> = text.split(' ').map(word).collect();
-    words.try_into().expect("three strings")
-}
 
 /// "The third colour beside two others is 3 less both" (01).
 fn third_colours(checks: &mut Checks) {
@@ -37,9 +33,10 @@ fn third_colours(checks: &mut Checks) {
 
 fn known(checks: &mut Checks) {
     for known in known_sums() {
-        let full = FullSum::of(known.m, &known.gates);
+        let start = known.start.map_or([0; 3], strings);
+        let full = FullSum::started(known.m, start, &known.gates);
         for &(output, s) in known.sums {
-            let name = format!("the full sum at {output} after {:?}", known.gates);
+            let name = format!("the full sum at {output} after {start:?} {:?}", known.gates);
             checks.tally.equal(&name, full.amplitude(strings(output)), s);
         }
     }
@@ -134,19 +131,19 @@ fn cut(random: &mut Random, m: usize) -> Result<(), String> {
     Ok(())
 }
 
-/// A random circuit by the full sum and by elimination: terms, amplitudes of every sliced colour, readout counts.
+/// A random circuit under a start by the full sum and by elimination: terms, amplitudes of every sliced colour, readout
+/// counts.
 fn agreement(random: &mut Random, m: usize) -> Result<(), String> {
     let count = random.below(40);
-    let gates = random.gates(m, count);
-    let full = FullSum::of(m, &gates);
-    let polynomial = Polynomial::of(m, &gates);
-    let terms = full.terms().ok_or("a term of another kind")?;
+    let circuit = started(random, m, count);
+    let (full, polynomial) = (circuit.full_sum(), circuit.polynomial());
+    let terms = FullSum::of(m, &circuit.gates).terms();
     same(
         "terms in full and by expansion",
-        listing(&terms),
+        listing(&terms.ok_or("a term of another kind")?),
         listing(&polynomial.terms()),
     )
-    .map_err(|difference| format!("{difference} after {gates:?}"))?;
+    .map_err(|difference| format!("{difference} after {circuit:?}"))?;
     for _ in 0..4 {
         let output = random.strings(m);
         for colour in COLOURS {
@@ -157,12 +154,44 @@ fn agreement(random: &mut Random, m: usize) -> Result<(), String> {
             let found = (sliced.amplitude, Some(sliced.readout));
             if found != (s, squares) {
                 return Err(format!(
-                    "{found:?}, in full {s} and {squares:?}, at {output:?} on {colour} after {gates:?}"
+                    "{found:?}, in full {s} and {squares:?}, at {output:?} on {colour} after {circuit:?}"
                 ));
             }
         }
     }
     Ok(())
+}
+
+/// A random circuit at every output string s: the full sum of a start is that of zeros at s with the carried start
+/// added. Whether the gates have moved the start.
+fn started_sums(random: &mut Random, m: usize) -> Result<bool, String> {
+    let count = random.below(40);
+    let circuit = started(random, m, count);
+    let ends = carried(circuit.start, &circuit.gates);
+    let zeros = FullSum::of(m, &circuit.gates).amplitudes();
+    let shifted = (0..zeros.len()).map(|s| zeros[s ^ joined(m, ends) as usize]);
+    same(
+        "S of a start, and of zeros with the start carried",
+        circuit.full_sum().amplitudes(),
+        shifted.collect(),
+    )
+    .map_err(|difference| format!("{difference} after {circuit:?}"))?;
+    Ok(ends != circuit.start)
+}
+
+/// The law by which the program opens sums, on the full sum.
+fn carried_starts(checks: &mut Checks, random: &mut Random, seed: u64) {
+    for m in 1..=4 {
+        let mut moved = 0;
+        for number in 0..25 {
+            let outcome = started_sums(random, m);
+            moved += usize::from(outcome == Ok(true));
+            let name = format!("a start carried to the end, seed {seed}, m = {m}, circuit {number}");
+            checks.tally.check(&name, outcome.map(|_| ()));
+        }
+        let name = format!("starts that gates have moved, seed {seed}, m = {m}");
+        checks.tally.equal(&name, moved >= 5, m > 1);
+    }
 }
 
 /// The sums of T over the strings of the third colour, for each string of the one colour that is read.
@@ -199,12 +228,11 @@ fn ways_to_one_colour(full: &FullSum, polynomial: &Polynomial, m: usize, read: C
     Ok(())
 }
 
-/// A random circuit with every colour read in turn.
+/// A random circuit under a start with every colour read in turn.
 fn one_colour_agreement(random: &mut Random, m: usize) -> Result<(), String> {
     let count = random.below(40);
-    let gates = random.gates(m, count);
-    let full = FullSum::of(m, &gates);
-    let polynomial = Polynomial::of(m, &gates);
+    let circuit = started(random, m, count);
+    let (full, polynomial) = (circuit.full_sum(), circuit.polynomial());
     let output = random.strings(m);
     let s = full.amplitudes()[joined(m, output) as usize];
     same("S of all strings and of one", s, full.amplitude(output))
@@ -212,7 +240,7 @@ fn one_colour_agreement(random: &mut Random, m: usize) -> Result<(), String> {
             let mut colours = COLOURS.into_iter();
             colours.try_for_each(|read| ways_to_one_colour(&full, &polynomial, m, read))
         })
-        .map_err(|difference| format!("{difference} after {gates:?}"))
+        .map_err(|difference| format!("{difference} after {circuit:?}"))
 }
 
 pub fn check(checks: &mut Checks) {
@@ -239,5 +267,6 @@ pub fn check(checks: &mut Checks) {
                 checks.tally.check(&name, one_colour_agreement(&mut random, m));
             }
         }
+        carried_starts(checks, &mut random, seed);
     }
 }

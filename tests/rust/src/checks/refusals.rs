@@ -7,7 +7,7 @@ mod pairs;
 
 use crate::Checks;
 use crate::circuits::in_layers;
-use waitfield_checks::gates::Gate;
+use waitfield_checks::gates::{Colour, Gate};
 use waitfield_checks::model::{HISTORY, Model, listing};
 use waitfield_checks::script::Script;
 
@@ -16,13 +16,13 @@ use waitfield_checks::script::Script;
 pub enum Moment {
     /// No circuit.
     Fresh,
-    /// Two positions a colour, one gate.
+    /// Two positions a colour, a start, a CNOT that moves it, and a CCZ.
     Held,
     /// The same with a sum open.
     Open,
     /// The same with a count of one colour read open.
     OneOpen,
-    /// Two positions a colour and 4,096 gates.
+    /// The same with 4,096 gates, all but the first the CCZ.
     Full,
     /// The same with a sum open.
     FullOpen,
@@ -32,7 +32,12 @@ use Moment::{Fresh, Full, FullOpen, Held, OneOpen, Open};
 
 const MOMENTS: [Moment; 6] = [Fresh, Held, Open, OneOpen, Full, FullOpen];
 
-/// The gate that is held.
+/// The gates that are held.
+const CNOT: Gate = Gate::Cnot {
+    colour: Colour::Blue,
+    control: 1,
+    target: 2,
+};
 const GATE: Gate = Gate::Ccz {
     red: 1,
     blue: 2,
@@ -45,42 +50,46 @@ fn begin(script: &mut Script, moment: Moment) {
         return;
     }
     script.say("(circuit 2)", "(ok)");
+    script.say("(start 00 01 00)", "(ok)");
+    script.say(CNOT.to_string(), "(ok)");
     match moment {
-        Full | FullOpen => in_layers(script, &[GATE; HISTORY]),
+        Full | FullOpen => in_layers(script, &[GATE; HISTORY - 1]),
         _ => script.say(GATE.to_string(), "(ok)"),
     }
-    script.say("(start 00 01 00)", "(ok)");
     let opened = match moment {
-        Open | FullOpen => "(amp b 00 01 00)",
-        OneOpen => "(one b 01)",
+        Open | FullOpen => "(amp b 00 11 00)",
+        OneOpen => "(one b 11)",
         _ => return,
     };
     script.say(opened, "(left 4)");
     script.say("(step 1)", "(left 3)");
 }
 
-/// The lines that show what is held. S is 48 with one CCZ, T 40 and N 12; with none or an even number of the same they
-/// are 64, 64 and 16.
+/// The lines that show what is held. The CNOT moves the start of blue from 01 to 11. There S is 48 with one CCZ, or an
+/// odd number of the same, T is 40 and N 12. Once all gates are taken back S is 64 at the start as it was given.
 fn end(script: &mut Script, moment: Moment) {
     script.case(format!("{moment:?}: nothing changed"));
-    let (gates, terms, [amplitude, readout, one_colour]): (usize, &[Gate], _) = match moment {
+    let gates = match moment {
         Fresh => return script.say("(circuit 2)", "(ok)"),
-        Held | Open | OneOpen => (1, &[GATE], ["(amp 48 6)", "(part 40 6)", "(one 12 4)"]),
-        Full | FullOpen => (HISTORY, &[], ["(amp 64 6)", "(part 64 6)", "(one 16 4)"]),
+        Held | Open | OneOpen => 2,
+        Full | FullOpen => HISTORY,
     };
+    let [amplitude, readout, one_colour] = ["(amp 48 6)", "(part 40 6)", "(one 12 4)"];
     if matches!(moment, Open | OneOpen | FullOpen) {
         script.say("(step 2)", "(left 1)");
         script.say("(step 1)", if moment == OneOpen { one_colour } else { amplitude });
     }
-    script.line("(terms)", listing(terms));
-    script.say("(amp r 00 01 00)", "(left 4)");
+    script.line("(terms)", listing(&[GATE]));
+    script.say("(amp r 00 11 00)", "(left 4)");
     script.say("(step 4)", amplitude);
-    script.say("(part g 00 01)", "(left 4)");
+    script.say("(part g 00 11)", "(left 4)");
     script.say("(step 4)", readout);
-    script.say("(one b 01)", "(left 4)");
+    script.say("(one b 11)", "(left 4)");
     script.say("(step 4)", one_colour);
     script.line(format!("(undo {gates})"), "(ok)".to_string());
     script.say("(undo 1)", "(no 12)");
+    script.say("(amp r 00 01 00)", "(left 4)");
+    script.say("(step 4)", "(amp 64 6)");
 }
 
 /// A line, the moments at which it is given, and its refusal.

@@ -102,7 +102,7 @@ const PAIRS: &[Pair] = &[
     (7, 11, SUM, "(part r 000 00)"),
     (7, 11, SUM, "(one r 0)"),
     (7, 11, SUM, "(one g 000)"),
-    (7, 12, &[Open, OneOpen], "(undo 2)"),
+    (7, 12, &[Open, OneOpen], "(undo 3)"),
     (7, 12, &[Open, OneOpen], "(undo 4096)"),
     (7, 13, &[FullOpen], "(ccz 1 1 1)"),
     (7, 13, &[FullOpen], "(layer (ccz 1 1 1) (ccz 2 2 2))"),
