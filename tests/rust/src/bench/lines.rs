@@ -18,18 +18,18 @@ const BLOCKS: usize = 64;
 
 /// An input and its answers.
 #[derive(Default)]
-struct Asked {
+pub struct Asked {
     input: String,
     answers: String,
 }
 
 impl Asked {
-    fn line(&mut self, line: &str, answer: &str) {
+    pub fn line(&mut self, line: &str, answer: &str) {
         self.input.extend([line, "\n"]);
         self.answers.extend([answer, "\n"]);
     }
 
-    fn timed(&self, program: &Program) -> Result<Duration, String> {
+    pub fn timed(&self, program: &Program) -> Result<Duration, String> {
         let done = measure::run(program, self.input.as_bytes())?;
         match done.output == self.answers.as_bytes() {
             true => Ok(done.time),

@@ -1,8 +1,10 @@
-//! The speed of `session` beside two kernels in Rust, and of lines that it takes beside the same lines read alone, all
-//! measured by turns in one run, and beside an older program if one is named. Prints tables of medians and ratios. Ends
-//! with a failure if the three do not give the same amplitudes, if counts are not those of the checks' elimination, or
-//! if a line has another answer than it should have.
+//! The speed of `session` beside two kernels in Rust, of lines that it takes beside the same lines read alone, and of
+//! sums opened and starts set with a full history beside an empty one, all measured by turns in one run, and beside an
+//! older program if one is named. Prints tables of medians and ratios. Ends with a failure if the three do not give the
+//! same amplitudes, if counts are not those of the checks' elimination, or if a line has another answer than it should
+//! have.
 
+mod held;
 mod lines;
 mod measure;
 mod packed;
@@ -10,6 +12,7 @@ mod plain;
 mod report;
 mod table;
 
+use held::Held;
 use lines::Lines;
 use measure::{measured, median, peak_memory};
 use packed::Packed;
@@ -196,6 +199,22 @@ fn lines(programs: &[Program]) -> Result<(), String> {
     Ok(())
 }
 
+/// Both kinds of lines with a full history and with none, by turns.
+fn held(programs: &[Program]) -> Result<(), String> {
+    let kinds = Held::all();
+    let mut samples: [[held::Samples; 2]; 2] = Default::default();
+    for number in 0..LINE_ROUNDS {
+        for (held, samples) in kinds.iter().zip(&mut samples) {
+            for (program, samples) in in_turn(programs, samples, number) {
+                held.round(program, samples)?;
+            }
+        }
+    }
+    let medians = |(held, samples): (&Held, [held::Samples; 2])| held::Figures::of(held, samples);
+    report::print_held(&kinds.iter().zip(samples).map(medians).collect::<Vec<_>>());
+    Ok(())
+}
+
 fn start_up(program: &Program) -> Result<(), String> {
     let runs: Result<Vec<_>, String> = (0..21).map(|_| measure::run(program, b"")).collect();
     let (times, clocks) = runs?.into_iter().map(|run| (run.time, run.clock)).unzip();
@@ -219,7 +238,11 @@ fn run() -> Result<(), String> {
     let medians = |(m, samples)| Figures::of(m, samples, SLICES);
     report::print(&SIZES.into_iter().zip(samples).map(medians).collect::<Vec<_>>());
     match programs.first() {
-        Some(session) => lines(&programs).and_then(|()| start_up(session)),
+        Some(session) => {
+            lines(&programs)?;
+            held(&programs)?;
+            start_up(session)
+        }
         None => Ok(()),
     }
 }

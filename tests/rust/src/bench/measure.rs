@@ -82,7 +82,7 @@ fn high_water(status: &str) -> u64 {
     number.unwrap_or(0)
 }
 
-pub fn median(mut times: Vec<Duration>) -> Duration {
-    times.sort();
-    times[times.len() / 2]
+pub fn median<T: PartialOrd + Copy>(mut samples: Vec<T>) -> T {
+    samples.sort_by(|a, b| a.partial_cmp(b).expect("measured numbers can be compared"));
+    samples[samples.len() / 2]
 }

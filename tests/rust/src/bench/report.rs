@@ -1,7 +1,7 @@
 //! The tables that the benchmark prints.
 
-use crate::lines;
 use crate::measure::median;
+use crate::{held, lines};
 use std::time::Duration;
 
 /// Samples of one m, each of the same number of slices.
@@ -45,7 +45,7 @@ impl Session {
             return None;
         }
         let circuit = median(samples.circuit);
-        let beyond = |times| a_slice(median(times).saturating_sub(circuit));
+        let beyond = |times: Vec<Duration>| a_slice(median(times).saturating_sub(circuit));
         Some(Session {
             amplitude: beyond(samples.amplitudes),
             count: beyond(samples.counts),
@@ -156,5 +156,16 @@ pub fn print_lines(all: &[lines::Figures]) {
     for figures in all {
         let (speed, ratios) = (cells(figures.speed, 2), cells(figures.ratios, 2));
         println!("| {} | {speed} | {ratios} |", figures.name);
+    }
+}
+
+pub fn print_held(all: &[held::Figures]) {
+    println!("\nWith 4,096 gates held, beside none: microseconds each, and ratios of times.\n");
+    let ratios = "4,096 gates / none | no gates, session / older | 4,096 gates, session / older";
+    println!("| at m = 16 | no gates | 4,096 gates | {ratios} |");
+    println!("|---|---|---|---|---|---|");
+    for figures in all {
+        let (times, ratios) = (cells(figures.times, 2), cells(figures.ratios, 2));
+        println!("| {} | {times} | {ratios} |", figures.name);
     }
 }
