@@ -67,7 +67,7 @@ fn ask_all(state: State, history: &mut [u32], text: &[u8]) -> State {
 }
 
 // Known sums (Manual 14): no gates; one CCZ, its readouts with red unread, and only green read; the CCZ twice; one CZ; a CCZ and then a CNOT;
-// a CNOT and then a CCZ.
+// a CNOT and then a CCZ; a start and then a CNOT, with a readout and only red read, the CNOT taken back and given again; a CNOT and then a start.
 fn sums(state: State, history: &mut [u32]) -> State {
     ask_all(
         state,
@@ -79,7 +79,11 @@ fn sums(state: State, history: &mut [u32]) -> State {
         (ccz 1 1 1)\n(amp r 0 0 0)\n(step 2)\n\
         (circuit 1)\n(cz (r 1) (b 1))\n(amp r 0 0 0)\n(step 2)\n(amp b 1 1 0)\n(step 2)\n(amp g 0 0 1)\n(step 2)\n\
         (circuit 2)\n(ccz 1 1 1)\n(cnot r 2 1)\n(terms)\n(amp r 00 00 00)\n(step 4)\n(amp b 11 00 00)\n(step 4)\n(amp g 10 00 00)\n(step 4)\n\
-        (circuit 2)\n(cnot r 2 1)\n(ccz 1 1 1)\n(amp r 10 00 00)\n(step 4)\n(amp b 11 00 00)\n(step 4)\n",
+        (circuit 2)\n(cnot r 2 1)\n(ccz 1 1 1)\n(amp r 10 00 00)\n(step 4)\n(amp b 11 00 00)\n(step 4)\n\
+        (circuit 2)\n(start 01 00 00)\n(cnot r 1 2)\n(amp r 11 00 00)\n(step 4)\n(amp b 01 00 00)\n(step 4)\n\
+        (part g 11 00)\n(step 4)\n(part b 01 00)\n(step 4)\n(one r 11)\n(step 4)\n(one r 01)\n(step 4)\n\
+        (undo 1)\n(amp g 01 00 00)\n(step 4)\n(cnot r 1 2)\n(amp b 11 00 00)\n(step 4)\n\
+        (circuit 2)\n(cnot r 1 2)\n(start 01 00 00)\n(amp g 11 00 00)\n(step 4)\n(amp r 01 00 00)\n(step 4)\n",
     )
 }
 
