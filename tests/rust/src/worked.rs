@@ -1,16 +1,17 @@
-//! The worked examples in the folder examples/. Five inputs are written by hand, two are made here.
+//! The worked examples in the folder examples/. Six inputs are written by hand, two are made here.
 
 use crate::circuits::{full_rank, hypercube};
 use crate::gates::{COLOURS, Colour, Strings, spelled};
 use crate::layers::circuit;
 
-pub const NAMES: [&str; 7] = [
+pub const NAMES: [&str; 8] = [
     "handover",
     "hypercube",
     "layers",
     "one-colour",
     "readout",
     "session",
+    "start",
     "terms",
 ];
 
