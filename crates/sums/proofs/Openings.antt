@@ -50,26 +50,23 @@ start-added c s r b g =
       long-back (c .m) (carried c .green) (long .green),
     )
 
--- The words of a state with an output string.
-unfoldable shown : Held → Numbers → Polynomial → List ℕ
-shown s n f =
+-- The words of a state whose polynomial is f, with an output string; the carried start is added to it.
+abbrev wordsAt : Held → Numbers → Polynomial → List ℕ
+wordsAt s n f =
     wordsOf
     (cond (leb (s .m) 16) (withOutput (strings (s .m) (bitXor (n .red) (s .carried .red)) (bitXor (n .blue) (s .carried .blue)) (bitXor (n .green) (s .carried .green))) f) f)
 
--- What is seen of a circuit with an output string.
-abbrev pub seenWith : Circuit → Numbers → Polynomial
-seenWith c n = withOutput (withStart (carried c) (strings (c .m) (n .red) (n .blue) (n .green))) (polynomial (c .gates))
+-- A circuit's polynomial with an output string, the carried start added to it.
+abbrev pub polynomialAt : Circuit → Numbers → Polynomial
+polynomialAt c n = withOutput (withStart (carried c) (strings (c .m) (n .red) (n .blue) (n .green))) (polynomial (c .gates))
 
-pub words-seen :
-    (s : Held) (n : Numbers) (w : List ℕ) →
-    ((f : Polynomial) → s .polynomial ≡ wordsOf f →
-    w ≡ wordsOf
-    (cond (leb (s .m) 16) (withOutput (strings (s .m) (bitXor (n .red) (s .carried .red)) (bitXor (n .blue) (s .carried .blue)) (bitXor (n .green) (s .carried .green))) f) f)) →
-    (c : Circuit) → s ≡ encodeCircuit c → SoundCircuit c → w ≡ wordsOf (seenWith c n)
-unfolding shown encodeCircuit numbersOf
-words-seen s n w made c is sound =
+pub words-at :
+    (s : Held) (n : Numbers) (w : List ℕ) → ((f : Polynomial) → s .polynomial ≡ wordsOf f → w ≡ wordsAt s n f) →
+    (c : Circuit) → s ≡ encodeCircuit c → SoundCircuit c → w ≡ wordsOf (polynomialAt c n)
+unfolding encodeCircuit numbersOf
+words-at s n w made c is sound =
     made (polynomial (c .gates)) (ap (λ (x : Held). x .polynomial) is)
-    ∙ ap (λ (x : Held). shown x n (polynomial (c .gates))) is
+    ∙ ap (λ (x : Held). wordsAt x n (polynomial (c .gates))) is
     ∙ rw (le-leb (c .m) 16 (sound .most), start-added c sound (n .red) (n .blue) (n .green))
 
 -- ---- the table, by what is asked
@@ -90,21 +87,21 @@ strings-joined Green m z u v = refl
 
 pub amplitude-tabled :
     (C : Colour) (r b g : ℕ) (c : Circuit) →
-    tableOf C (seenWith c (record { red = r; blue = b; green = g })) ≡ tableFor (amp C (highFirst (c .m) r) (highFirst (c .m) b) (highFirst (c .m) g)) c
+    tableOf C (polynomialAt c (record { red = r; blue = b; green = g })) ≡ tableFor (amp C (highFirst (c .m) r) (highFirst (c .m) b) (highFirst (c .m) g)) c
 unfolding tableFor sliced kept output strings
 amplitude-tabled C r b g c = refl
 
 -- Zeros for the unread colour, and the two strings beside it.
 pub readout-tabled :
     (C : Colour) (x y : ℕ) (n : Numbers) (c : Circuit) → n ≡ joinedAs C 0 x y →
-    tableOf C (seenWith c n) ≡ tableFor (part C (highFirst (c .m) x) (highFirst (c .m) y)) c
+    tableOf C (polynomialAt c n) ≡ tableFor (part C (highFirst (c .m) x) (highFirst (c .m) y)) c
 unfolding tableFor sliced kept output
 readout-tabled C x y n c e = rw (e, strings-joined C (c .m) 0 x y, zero-digits (c .m))
 
 -- The string of the colour that is read, zeros for the other two, and of the terms those that hold a position of it.
 pub one-tabled :
     (C D : Colour) (x : ℕ) (n : Numbers) (c : Circuit) → n ≡ joinedAs C x 0 0 → D ≡ first C colours →
-    tableOf D (holding C (seenWith c n)) ≡ tableFor (one C (highFirst (c .m) x)) c
+    tableOf D (holding C (polynomialAt c n)) ≡ tableFor (one C (highFirst (c .m) x)) c
 unfolding tableFor sliced kept output
 one-tabled C D x n c e unread = rw (e, unread, strings-joined C (c .m) x 0 0, zero-digits (c .m))
 

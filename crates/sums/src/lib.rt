@@ -98,7 +98,7 @@ fn joined(colour: Colour, z: u32, u: u32, v: u32) -> Numbers
 }
 
 // The words of the circuit's polynomial with an output string, the carried start added to it.
-fn seen(held: Held, output: Numbers) -> [u32; WORDS]
+fn words_with_output(held: Held, output: Numbers) -> [u32; WORDS]
     ensures { λ w. ⌜ ((c : Circuit) → held ≡ encodeCircuit c → SoundCircuit c →
         w ≡ wordsOf (withOutput (withStart (carried c) (strings (c .m) (output .red) (output .blue) (output .green))) (polynomial (c .gates)))) ⌝ }
 {
@@ -123,7 +123,7 @@ pub fn open_amplitude(held: Held, colour: Colour, r: u32, b: u32, g: u32) -> Sum
         blue: b,
         green: g,
     };
-    let words = seen(held, output);
+    let words = words_with_output(held, output);
     Sum {
         total: Total::Amplitude(0),
         worked: 0,
@@ -137,7 +137,7 @@ pub fn open_readout(held: Held, colour: Colour, x: u32, y: u32) -> Sum
         s ≡ encodeSum (opening c (part colour (highFirst (c .m) x) (highFirst (c .m) y)))) ⌝ }
 {
     let output = joined(colour, 0, x, y);
-    let words = seen(held, output);
+    let words = words_with_output(held, output);
     Sum {
         total: Total::Readout(0),
         worked: 0,
@@ -161,7 +161,7 @@ pub fn open_one_colour(held: Held, read: Colour, x: u32) -> Sum
     ensures { λ s. ⌜ ((c : Circuit) → held ≡ encodeCircuit c → SoundCircuit c → s ≡ encodeSum (opening c (one read (highFirst (c .m) x)))) ⌝ }
 {
     let output = joined(read, x, 0, 0);
-    let words = seen(held, output);
+    let words = words_with_output(held, output);
     let terms = tables::terms::holding(words, read);
     Sum {
         total: Total::OneColour(0),

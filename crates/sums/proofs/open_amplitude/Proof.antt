@@ -5,8 +5,8 @@ use Rattle.sums.proofs.Openings.{amplitude-tabled, amplitude-begun}
 use Rattle.sums.proofs.open_amplitude.Statement.{statement}
 use Rattle.sums.proofs.open_amplitude.Tie as tie
 
-seen-requires : tie.Need-seen-requires
-seen-requires c κs = search needs
+words-with-output-requires : tie.Need-words-with-output-requires
+words-with-output-requires c κs = search needs
 
 table-requires : tie.Need-table-requires
 table-requires c κs = search needs
@@ -15,7 +15,7 @@ returns : tie.Need-returns
 returns c k is s =
     let a = c .before .before .args in
     amplitude-begun (a .colour) _ _ _ k (c .table .result)
-    (c .table .ensures _ (c .before .seen .ensures k is s) ∙ amplitude-tabled (a .colour) (a .r) (a .b) (a .g) k)
+    (c .table .ensures _ (c .before .words-with-output .ensures k is s) ∙ amplitude-tabled (a .colour) (a .r) (a .b) (a .g) k)
 
 pub open-amplitude-spec : {M : Type 1} → statement M
-open-amplitude-spec = tie.close (tie.spec seen-requires table-requires returns)
+open-amplitude-spec = tie.close (tie.spec words-with-output-requires table-requires returns)

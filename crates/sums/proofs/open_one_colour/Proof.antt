@@ -8,8 +8,8 @@ use Rattle.sums.proofs.open_one_colour.Tie as tie
 joined-requires : tie.Need-joined-requires
 joined-requires c κs = search needs
 
-seen-requires : tie.Need-seen-requires
-seen-requires c κs = search needs
+words-with-output-requires : tie.Need-words-with-output-requires
+words-with-output-requires c κs = search needs
 
 holding-requires : tie.Need-holding-requires
 holding-requires c κs = search needs
@@ -26,8 +26,8 @@ returns c k is s =
     let output = terms .before .before in
     let a = output .before .args in
     one-begun (a .read) _ k (c .table .result)
-    (c .table .ensures _ (terms .holding .ensures _ (terms .before .seen .ensures k is s))
+    (c .table .ensures _ (terms .holding .ensures _ (terms .before .words-with-output .ensures k is s))
     ∙ one-tabled (a .read) _ (a .x) _ k (output .joined .ensures) (c .before .first-unread .ensures))
 
 pub open-one-colour-spec : {M : Type 1} → statement M
-open-one-colour-spec = tie.close (tie.spec joined-requires seen-requires holding-requires first-unread-requires table-requires returns)
+open-one-colour-spec = tie.close (tie.spec joined-requires words-with-output-requires holding-requires first-unread-requires table-requires returns)

@@ -8,8 +8,8 @@ use Rattle.sums.proofs.open_readout.Tie as tie
 joined-requires : tie.Need-joined-requires
 joined-requires c κs = search needs
 
-seen-requires : tie.Need-seen-requires
-seen-requires c κs = search needs
+words-with-output-requires : tie.Need-words-with-output-requires
+words-with-output-requires c κs = search needs
 
 table-requires : tie.Need-table-requires
 table-requires c κs = search needs
@@ -19,7 +19,7 @@ returns c k is s =
     let output = c .before .before in
     let a = output .before .args in
     readout-begun (a .colour) _ _ k (c .table .result)
-    (c .table .ensures _ (c .before .seen .ensures k is s) ∙ readout-tabled (a .colour) (a .x) (a .y) _ k (output .joined .ensures))
+    (c .table .ensures _ (c .before .words-with-output .ensures k is s) ∙ readout-tabled (a .colour) (a .x) (a .y) _ k (output .joined .ensures))
 
 pub open-readout-spec : {M : Type 1} → statement M
-open-readout-spec = tie.close (tie.spec joined-requires seen-requires table-requires returns)
+open-readout-spec = tie.close (tie.spec joined-requires words-with-output-requires table-requires returns)
