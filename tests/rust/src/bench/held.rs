@@ -2,7 +2,7 @@
 //! holds, beside the same lines behind none. The time for the circuit alone is taken off.
 
 use crate::lines::Asked;
-use crate::measure::median;
+use crate::measure::{median, median_seconds};
 use std::time::Duration;
 use waitfield_checks::gates::{COLOURS, Colour, Gate, Strings, digits, spelled};
 use waitfield_checks::model::HISTORY;
@@ -121,8 +121,7 @@ impl Samples {
 
     /// Seconds behind no gates, and behind a full history; none if the program was not measured.
     fn medians(self) -> [Option<f64>; 2] {
-        let seconds = |times: Vec<Duration>| (!times.is_empty()).then(|| median(times).as_secs_f64());
-        [self.none, self.full].map(seconds)
+        [self.none, self.full].map(median_seconds)
     }
 }
 

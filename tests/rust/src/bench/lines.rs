@@ -2,7 +2,7 @@
 //! read as a form and then refused by 6: the reading, the framing and the writing of an answer are in both, but not
 //! what the operands are tried for, nor what the gates change.
 
-use crate::measure::{self, median};
+use crate::measure::{self, median_seconds};
 use std::time::Duration;
 use waitfield_checks::circuits::{block_ccz, every_position, in_blocks};
 use waitfield_checks::gates::{COLOURS, Gate, Spot};
@@ -112,8 +112,7 @@ pub struct Samples {
 impl Samples {
     /// Seconds where the lines are taken, and where they are read alone; none if the program was not measured.
     fn medians(self) -> [Option<f64>; 2] {
-        let seconds = |times: Vec<Duration>| (!times.is_empty()).then(|| median(times).as_secs_f64());
-        [self.taken, self.read].map(seconds)
+        [self.taken, self.read].map(median_seconds)
     }
 }
 

@@ -183,35 +183,40 @@ fn session_round(
     Ok(())
 }
 
-/// All kinds of lines by turns.
-fn lines(programs: &[Program]) -> Result<(), String> {
-    let kinds = Lines::all();
-    let mut samples: [[lines::Samples; 2]; 3] = Default::default();
+/// Samples of every kind of lines by turns: for each kind those of `session` and of an older program.
+fn by_turns<K, S: Default>(
+    kinds: &[K],
+    programs: &[Program],
+    round: impl Fn(&K, &Program, &mut S) -> Result<(), String>,
+) -> Result<Vec<[S; 2]>, String> {
+    let mut samples: Vec<[S; 2]> = kinds.iter().map(|_| Default::default()).collect();
     for number in 0..LINE_ROUNDS {
-        for (lines, samples) in kinds.iter().zip(&mut samples) {
+        for (kind, samples) in kinds.iter().zip(&mut samples) {
             for (program, samples) in in_turn(programs, samples, number) {
-                lines.round(program, samples)?;
+                round(kind, program, samples)?;
             }
         }
     }
-    let medians = |(lines, samples): (&Lines, [lines::Samples; 2])| lines::Figures::of(lines, samples);
-    report::print_lines(&kinds.iter().zip(samples).map(medians).collect::<Vec<_>>());
+    Ok(samples)
+}
+
+/// Gate lines and layers.
+fn lines(programs: &[Program]) -> Result<(), String> {
+    let kinds = Lines::all();
+    let samples = by_turns(&kinds, programs, Lines::round)?;
+    let figures = kinds.iter().zip(samples);
+    let figures = figures.map(|(lines, samples)| lines::Figures::of(lines, samples));
+    report::print_lines(&figures.collect::<Vec<_>>());
     Ok(())
 }
 
-/// Both kinds of lines with a full history and with none, by turns.
+/// Sums and starts, with a full history and with none.
 fn held(programs: &[Program]) -> Result<(), String> {
     let kinds = Held::all();
-    let mut samples: [[held::Samples; 2]; 2] = Default::default();
-    for number in 0..LINE_ROUNDS {
-        for (held, samples) in kinds.iter().zip(&mut samples) {
-            for (program, samples) in in_turn(programs, samples, number) {
-                held.round(program, samples)?;
-            }
-        }
-    }
-    let medians = |(held, samples): (&Held, [held::Samples; 2])| held::Figures::of(held, samples);
-    report::print_held(&kinds.iter().zip(samples).map(medians).collect::<Vec<_>>());
+    let samples = by_turns(&kinds, programs, Held::round)?;
+    let figures = kinds.iter().zip(samples);
+    let figures = figures.map(|(held, samples)| held::Figures::of(held, samples));
+    report::print_held(&figures.collect::<Vec<_>>());
     Ok(())
 }
 

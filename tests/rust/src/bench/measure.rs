@@ -86,3 +86,8 @@ pub fn median<T: PartialOrd + Copy>(mut samples: Vec<T>) -> T {
     samples.sort_by(|a, b| a.partial_cmp(b).expect("measured numbers can be compared"));
     samples[samples.len() / 2]
 }
+
+/// The median in seconds; none if nothing was measured.
+pub fn median_seconds(times: Vec<Duration>) -> Option<f64> {
+    (!times.is_empty()).then(|| median(times).as_secs_f64())
+}
