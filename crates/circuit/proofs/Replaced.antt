@@ -2,42 +2,18 @@
 -- the dot product stays if the other string is changed with control and target exchanged.
 use mathlib.Core.Path.{_≡_, refl, sym, _∙_, ap, ap₂}
 use mathlib.Core.Logic.{_≢_}
-use mathlib.Core.Bool.{Bool, true, false, cond, _&&_, and-comm, Bool·not-not}
-use mathlib.Core.List.{[], _∷_}
-use Prim.Native.Nat.{ℕ, zero, suc, _≤_, _<_}
+use mathlib.Core.Bool.{Bool, true, false, cond, _&&_, and-comm}
+use Prim.Native.Nat.{ℕ, zero, suc, _≤_}
 use native.Mathlib.Omega.{arith}
 use lib.Dec.{eqb, eqb·suc-suc}
 use lib.ListN.{length}
 use borrow.Author.Tests.{ne-eqb}
-use Rattle.gf2.specs.Strings.{BitString, _⊕_, dot, bit, flip}
+use Rattle.gf2.specs.Strings.{BitString, _⊕_, dot, bit}
 use Rattle.gf2.proofs.Bits.{⊕-assoc, ⊕-self, false-⊕}
-use Rattle.gf2.proofs.Strings.{dot-comm, dot-flip}
-use Rattle.gf2.proofs.Impossible.{never}
+use Rattle.gf2.proofs.Strings.{dot-comm, dot-flip, bit-kept, flip-twice, flip-flip}
 use Rattle.circuit.specs.Sum.{at, turned, replaced}
 
 -- ---- a bit turned over
-
-bit-kept : (i j : ℕ) (z : BitString) → eqb i j ≡ false → bit i (flip j z) ≡ bit i z
-unfolding bit flip
-bit-kept i j [] e = refl
-bit-kept zero zero (x ∷ z) e = never (cc)
-bit-kept zero (suc j) (x ∷ z) e = refl
-bit-kept (suc i) zero (x ∷ z) e = refl
-bit-kept (suc i) (suc j) (x ∷ z) e = bit-kept i j z (sym (eqb·suc-suc i j) ∙ e)
-
-flip-twice : (j : ℕ) (z : BitString) → flip j (flip j z) ≡ z
-unfolding flip
-flip-twice j [] = refl
-flip-twice zero (x ∷ z) = ap (λ (b : Bool). b ∷ z) (Bool·not-not x)
-flip-twice (suc j) (x ∷ z) = ap (λ (w : BitString). x ∷ w) (flip-twice j z)
-
-flip-flip : (i j : ℕ) (z : BitString) → flip i (flip j z) ≡ flip j (flip i z)
-unfolding flip
-flip-flip i j [] = refl
-flip-flip zero zero (x ∷ z) = refl
-flip-flip zero (suc j) (x ∷ z) = refl
-flip-flip (suc i) zero (x ∷ z) = refl
-flip-flip (suc i) (suc j) (x ∷ z) = ap (λ (w : BitString). x ∷ w) (flip-flip i j z)
 
 at-turned : (i t : ℕ) (z : BitString) → eqb i t ≡ false → at i (turned t z) ≡ at i z
 unfolding at turned bit

@@ -10,7 +10,9 @@ use lib.IntN.{ℤ, natAbs}
 use lib.Pow.{pow-add}
 use Rattle.gf2.specs.Strings.{BitString, _⊕_, dot, bit, cnot, zeros}
 use Rattle.gf2.specs.Sums.{sum, sgn}
-use Rattle.gf2.proofs.Bits.{false-⊕, xor-ac}
+use Rattle.gf2.proofs.Bits.{xor-ac}
+use Rattle.gf2.proofs.Strings.{dot-zero}
+use Rattle.gf2.proofs.ZeroStrings.{zeros-zero}
 use Rattle.gf2.proofs.Bounds.{sgn-abs, sum-bound}
 use Rattle.gf2.proofs.Sums.{sum-cong, sum-cnot}
 use Rattle.circuit.specs.declared.Gate.{Gate}
@@ -100,18 +102,15 @@ started-plain m t gs s v ht =
         x : Basis
         x = (carryAll gs (unsigned y)) .string
 
-dot-zeros : (m : ℕ) (v : BitString) → dot (zeros m) v ≡ false
-unfolding dot zeros
-dot-zeros zero v = refl
-dot-zeros (suc m) [] = refl
-dot-zeros (suc m) (x ∷ v) = false-⊕ (dot (zeros m) v) ∙ dot-zeros m v
-
 -- With a start of zeros the sum is that without a start.
 pub zero-start : (m : ℕ) (gs : List Gate) (s : Basis) → signedSum m (allZeros m) gs s ≡ plainSum m gs s
 unfolding signedSum plainSum started unsigned dots allZeros _⊕_
 zero-start m gs s =
     sumAll-cong m (λ y. counted s (carryAll gs (started (allZeros m) y))) (λ y. counted s (carryAll gs (unsigned y)))
-    (λ y h. ap (λ (b : Bool). counted s (carryAll gs (record { sign = b; string = y }))) (rw (dot-zeros m (y .red), dot-zeros m (y .blue), dot-zeros m (y .green))))
+    (λ y h. ap (λ (b : Bool). counted s (carryAll gs (record { sign = b; string = y }))) (rw (none (y .red), none (y .blue), none (y .green))))
+  where
+    none : (v : BitString) → dot (zeros m) v ≡ false
+    none v = dot-zero (zeros m) v (zeros-zero m)
 
 -- The sum of the start t at s is the sum of the start of zeros at s with the carried t added.
 pub start-carried :

@@ -1,10 +1,9 @@
 -- A start carried over gates: over one gate more, over a gate twice, and the sign that it gives beside the sign met on the way.
 use mathlib.Core.Path.{_≡_, refl, sym, _∙_, ap}
-use mathlib.Core.Bool.{Bool, true, _&&_}
+use mathlib.Core.Bool.{Bool, true}
 use mathlib.Core.List.{List, [], _∷_, _++_}
 use Prim.Native.Nat.{ℕ}
 use native.Mathlib.Omega.{arith}
-use lib.ListN.{length}
 use borrow.Author.Tests.{ne-eqb}
 use Rattle.gf2.specs.Strings.{BitString, _⊕_, _⊞_, dot}
 use Rattle.gf2.proofs.Bits.{xor-ac}

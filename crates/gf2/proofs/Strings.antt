@@ -1,6 +1,6 @@
 -- Laws of bit strings: dot products, sums, a bit turned over.
 use mathlib.Core.Path.{_≡_, refl, sym, _∙_, ap, ap₂}
-use mathlib.Core.Bool.{Bool, true, false, not, _&&_, and-comm}
+use mathlib.Core.Bool.{Bool, true, false, not, _&&_, and-comm, Bool·not-not}
 use mathlib.Core.List.{[], _∷_}
 use Prim.Native.Nat.{ℕ, zero, suc, _≤_, _<_}
 use native.Mathlib.Omega.{arith}
@@ -8,6 +8,7 @@ use lib.ListN.{length}
 use lib.Dec.{eqb, eqb·zero-suc, eqb·suc-zero, eqb·suc-suc}
 use borrow.Author.Tests.{eq-eqb}
 use Rattle.gf2.specs.Strings.{BitString, _⊕_, _⊞_, dot, bit, flip, isZero}
+use Rattle.gf2.proofs.Impossible.{never}
 use Rattle.gf2.proofs.Bits.{⊕-assoc, ⊕-false, false-⊕, xor-ac, and-⊕}
 
 pub dot-⊞ : (a b v : BitString) → dot (a ⊞ b) v ≡ dot a v ⊕ dot b v
@@ -78,6 +79,29 @@ bit-flip zero zero (x ∷ z) h = not-is x ∙ ap (λ w. x ⊕ w) (sym (eq-eqb 0 
 bit-flip zero (suc t) (x ∷ z) h = sym (⊕-false x) ∙ ap (λ w. x ⊕ w) (sym (eqb·zero-suc t))
 bit-flip (suc i) zero (x ∷ z) h = sym (⊕-false (bit i z)) ∙ ap (λ w. bit i z ⊕ w) (sym (eqb·suc-zero i))
 bit-flip (suc i) (suc t) (x ∷ z) h = bit-flip i t z (omega arith) ∙ ap (λ w. bit i z ⊕ w) (sym (eqb·suc-suc i t))
+
+-- Every other bit stays, whatever the string's length.
+pub bit-kept : (i j : ℕ) (z : BitString) → eqb i j ≡ false → bit i (flip j z) ≡ bit i z
+unfolding bit flip
+bit-kept i j [] e = refl
+bit-kept zero zero (x ∷ z) e = never (cc)
+bit-kept zero (suc j) (x ∷ z) e = refl
+bit-kept (suc i) zero (x ∷ z) e = refl
+bit-kept (suc i) (suc j) (x ∷ z) e = bit-kept i j z (sym (eqb·suc-suc i j) ∙ e)
+
+pub flip-twice : (j : ℕ) (z : BitString) → flip j (flip j z) ≡ z
+unfolding flip
+flip-twice j [] = refl
+flip-twice zero (x ∷ z) = ap (λ (b : Bool). b ∷ z) (Bool·not-not x)
+flip-twice (suc j) (x ∷ z) = ap (λ (w : BitString). x ∷ w) (flip-twice j z)
+
+pub flip-flip : (i j : ℕ) (z : BitString) → flip i (flip j z) ≡ flip j (flip i z)
+unfolding flip
+flip-flip i j [] = refl
+flip-flip zero zero (x ∷ z) = refl
+flip-flip zero (suc j) (x ∷ z) = refl
+flip-flip (suc i) zero (x ∷ z) = refl
+flip-flip (suc i) (suc j) (x ∷ z) = ap (λ (w : BitString). x ∷ w) (flip-flip i j z)
 
 pub length-flip : (t : ℕ) (z : BitString) → length (flip t z) ≡ length z
 unfolding flip

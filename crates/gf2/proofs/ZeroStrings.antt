@@ -5,9 +5,14 @@ use mathlib.Core.List.{[], _∷_}
 use Prim.Native.Nat.{ℕ, zero, suc, _<_}
 use native.Mathlib.Omega.{arith}
 use lib.ListN.{length}
-use Rattle.gf2.specs.Strings.{BitString, bit, isZero}
+use Rattle.gf2.specs.Strings.{BitString, bit, zeros, isZero}
 use Rattle.gf2.specs.Words.{bitAt, lowFirst}
 use Rattle.gf2.proofs.LowFirst.{length-lowFirst, bit-lowFirst}
+
+pub zeros-zero : (m : ℕ) → isZero (zeros m) ≡ true
+unfolding isZero zeros
+zeros-zero zero = refl
+zeros-zero (suc m) = zeros-zero m
 
 pub zero-of-bits : (b : BitString) → ((k : ℕ) → k < length b → bit k b ≡ false) → isZero b ≡ true
 unfolding isZero bit

@@ -6,6 +6,7 @@ use Prim.Native.Nat.{ℕ, zero, suc}
 use lib.Dec.{eqb, eqb·suc-zero}
 use Rattle.gf2.specs.Strings.{BitString, _⊕_, bit, zeros}
 use Rattle.gf2.proofs.Bits.{⊕-false, and-left-comm}
+use Rattle.gf2.proofs.ZeroStrings.{zeros-zero, bit-of-zero}
 use Rattle.gf2.proofs.Impossible.{never}
 use Rattle.circuit.specs.declared.Colour.{Colour}
 use Rattle.circuit.specs.declared.Colour.the-variants.{Red, Blue, Green}
@@ -48,19 +49,13 @@ module _ (f : Polynomial) (h : Term) where
 other-string : (C D : Colour) (p : BitString) (f : Polynomial) → sameColour C D ≡ false → holding C (added D p f) ≡ holding C f
 other-string C D p f e = fun-ext (λ h. other-at f h C D p e)
 
-bit-zeros : (n m : ℕ) → bit n (zeros m) ≡ false
-unfolding bit zeros
-bit-zeros n zero = refl
-bit-zeros zero (suc m) = refl
-bit-zeros (suc n) (suc m) = bit-zeros n m
-
 -- Zeros add nothing.
 no-string : (C : Colour) (m : ℕ) (f : Polynomial) → added C (zeros m) f ≡ f
 unfolding added zeros
 no-string C m f = fun-ext (λ h. ap (λ w. f h ⊕ (eqb (first C h) 0 && (eqb (second C h) 0 && w))) (none (the C h)) ∙ ap (λ w. f h ⊕ w) (nothing (eqb (first C h) 0) (eqb (second C h) 0)) ∙ ⊕-false (f h))
   where
     none : (n : ℕ) → bit n (false ∷ zeros m) ≡ false
-    none n = bit-zeros n (suc m)
+    none n = bit-of-zero (zeros (suc m)) n (zeros-zero (suc m))
 
     nothing : (a b : Bool) → a && (b && false) ≡ false
     nothing a b = ap (λ w. a && w) (and-false b) ∙ and-false a

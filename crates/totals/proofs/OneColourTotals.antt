@@ -1,8 +1,8 @@
 -- The count of one colour read after more slices: the shares are what the definition adds, and the count is small enough to be added to.
-use mathlib.Core.Path.{_≡_, refl, sym, _∙_, ap, ap₂}
+use mathlib.Core.Path.{_≡_, sym, _∙_, ap, ap₂}
 use mathlib.Core.Bool.{true, false, cond, _&&_}
 use mathlib.Core.List.{List}
-use Prim.Native.Nat.{ℕ, zero, suc, _+_, _-_, _*_, _^_, _≤_}
+use Prim.Native.Nat.{ℕ, _+_, _-_, _*_, _^_, _≤_}
 use native.Mathlib.Nat.{le-trans, one-mul, mul-le-mul-left}
 use native.Mathlib.Omega.{arith}
 use lib.ListN.{length}
@@ -10,6 +10,7 @@ use lib.Pow.{pow-mono}
 use Rattle.gf2.specs.Strings.{BitString, isZero, zeros}
 use Rattle.gf2.specs.Digits.{highFirst}
 use Rattle.gf2.proofs.BitNumbers.{length-zeros}
+use Rattle.gf2.proofs.ZeroStrings.{zeros-zero}
 use Rattle.circuit.specs.declared.Colour.{Colour}
 use Rattle.circuit.specs.declared.Gate.{Gate}
 use Rattle.circuit.specs.Colours.{sameColour, first, second, join}
@@ -47,11 +48,6 @@ one-by-answer m f C D X Y z other hX hY none =
     ∙ ap₂ (λ (a b : ℕ). cond (isNought (innerSum m (holding C f) D (first D (join C X Y Y)) (second D (join C X Y Y)) z)) 0 (2 ^ (a - b)))
     (one-mul m) (one-mul (rank m (gamma m (holding C f) D z)))
     ∙ sym (one-by-inner C D m f X Y z other hX hY none)
-
-zeros-zero : (m : ℕ) → isZero (zeros m) ≡ true
-unfolding isZero zeros
-zeros-zero zero = refl
-zeros-zero (suc m) = zeros-zero m
 
 module _ (m : ℕ) (gs : List Gate) (C D : Colour) (X : BitString) (table : List ℕ) (tabled : OneTabled m gs C D X table) (small : m ≤ 16) where
   abbrev g : Polynomial

@@ -1,7 +1,5 @@
 -- The new start is carried over the gates held; the rest stays.
 use borrow.Author.Needs.{needs}
-use Rattle.held.specs.Circuit.{withNewStart, carried}
-use Rattle.held.specs.Memory.{encodeCircuit}
 use Rattle.held.proofs.GateStates.{start-set}
 use Rattle.held.proofs.set_start.Statement.{statement}
 use Rattle.held.proofs.set_start.Tie as tie

@@ -1,6 +1,6 @@
 -- Only a CNOT changes a start.
 use borrow.Author.Needs.{needs}
-use mathlib.Core.Path.{_≡_, ap, sym, _∙_}
+use mathlib.Core.Path.{sym, _∙_}
 use borrow.Author.Tests.{not-true, not-false}
 use Rattle.circuit.specs.Start.{carriedOver}
 use Rattle.held.proofs.carried.over_gate.Statement.{statement}
