@@ -6,7 +6,7 @@ use mathlib.Core.Bool.{cond, false}
 use mathlib.Core.List.{List, [], _∷_, _++_}
 use lib.Dec.{eqb}
 use lib.ListN.{getD, drop}
-use Rattle.circuit.specs.declared.Gate.the-variants.{Ccz, Cz, Cnot}
+use Rattle.circuit.specs.declared.Gate.the-variants.{Ccz, Cz, Cnot, Z}
 use Rattle.text.specs.Spelling.{bytes, decimal, spelledGate}
 use Rattle.text.specs.Items.{isDigit, valueFrom, pastNumber, gateOf}
 use Rattle.text.proofs.Decimal.{value-decimal, after-decimal}
@@ -54,6 +54,7 @@ answer-of (Terms n) = rw (number-at n 41 [] refl)
 answer-of (Listed (Ccz i j k)) = ap Listed (gate-of-line (Ccz i j k))
 answer-of (Listed (Cz p q)) = ap Listed (gate-of-line (Cz p q))
 answer-of (Listed (Cnot C c t)) = ap Listed (gate-of-line (Cnot C c t))
+answer-of (Listed (Z p)) = ap Listed (gate-of-line (Z p))
 answer-of (Refused e) = rw (number-at e 41 [] refl)
 
 -- ---- one to one: `answers-unique a (Readout t n)` says that only a readout's own answer has its bytes

@@ -10,7 +10,7 @@ use mir.Val.{Val, SFits}
 use denote.Laws.{Is}
 use Rattle.circuit.specs.declared.Spot.{Spot}
 use Rattle.circuit.specs.declared.Gate.{Gate}
-use Rattle.circuit.specs.declared.Gate.the-variants.{Ccz, Cz, Cnot}
+use Rattle.circuit.specs.declared.Gate.the-variants.{Ccz, Cz, Cnot, Z}
 use Rattle.circuit.proofs.Gate.{the-row as gate-row}
 use Rattle.text.specs.Spelling.{bytes, decimal, signedDecimal, spelledSpot, spelledGate}
 use Rattle.text.proofs.DecimalUnique.{decimal-length}
@@ -47,6 +47,7 @@ gate-within (Ccz i j k) v p =
 gate-within (Cz p q) v f =
     simp (length-append, spot-length) (omega (arith, decimal-word (p .position) (omega arith), decimal-word (q .position) (omega arith)))
 gate-within (Cnot C c t) v p = simp length-append (omega (arith, decimal-word c (omega arith), decimal-word t (omega arith)))
+gate-within (Z p) v f = simp (length-append, spot-length) (omega (arith, decimal-word (p .position) (omega arith)))
 
 -- Every answer has room among the 96 bytes of a text.
 pub answer-within : (a : Answer) (v : List Val) → Is the-row a v → length (bytesOf a) ≤ 96
@@ -70,6 +71,7 @@ abbrev pub ModestGate : Gate → Type 0
 ModestGate (Ccz i j k) = (i < 100) × (j < 100) × (k < 100)
 ModestGate (Cz p q) = (p .position < 100) × (q .position < 100)
 ModestGate (Cnot C c t) = (c < 100) × (t < 100)
+ModestGate (Z p) = p .position < 100
 
 abbrev pub Modest : Answer → Type 0
 Modest Ok = Unit {0}
@@ -90,6 +92,7 @@ gate-fits (Ccz i j k) h = simp length-append (omega (arith, two-digits i (h .0),
 gate-fits (Cz p q) h =
     simp (length-append, spot-length) (omega (arith, two-digits (p .position) (h .0), two-digits (q .position) (h .1)))
 gate-fits (Cnot C c t) h = simp length-append (omega (arith, two-digits c (h .0), two-digits t (h .1)))
+gate-fits (Z p) h = simp (length-append, spot-length) (omega (arith, two-digits (p .position) h))
 
 -- No answer of the engine is longer than the 64 bytes that it asks for.
 pub answer-fits : (a : Answer) → Modest a → length (bytesOf a) ≤ 64

@@ -9,7 +9,7 @@ use Rattle.text.specs.Spelling.{bytes, decimal, signedDecimal, spelledGate}
 use Rattle.answers.specs.declared.Answer.{Answer}
 use Rattle.answers.specs.declared.Answer.the-variants.{Ok, Left, Amplitude, Readout, OneColour, Terms, Listed, Refused}
 
--- The line of each answer. A listed term is a line of its own, a `ccz` or `cz` form; E is the number of the refusal.
+-- The line of each answer. A listed term is a line of its own, a `ccz`, `cz` or `z` form; E is the number of the refusal.
 unfoldable pub bytesOf : Answer → List ℕ
 bytesOf Ok = bytes "(ok)"
 bytesOf (Left l) = bytes "(left " ++ (decimal l ++ bytes ")")

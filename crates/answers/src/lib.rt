@@ -86,6 +86,13 @@ fn cnot_line(c: Colour, control: u64, target: u64) -> Text
     push_byte(two, b')')
 }
 
+fn z_line(p: Spot) -> Text
+    ensures { λ r. ⌜ r ≡ textOf (spelledGate (Gate.Z p)) ⌝ }
+{
+    let one = push_spot(text_of(b"(z "), p);
+    push_byte(one, b')')
+}
+
 fn gate_line(g: Gate) -> Text
     ensures { λ r. ⌜ r ≡ textOf (spelledGate g) ⌝ }
 {
@@ -93,6 +100,7 @@ fn gate_line(g: Gate) -> Text
         Gate::Ccz(i, j, k) => ccz_line(i as u64, j as u64, k as u64),
         Gate::Cz(p, q) => cz_line(p, q),
         Gate::Cnot(c, control, target) => cnot_line(c, control as u64, target as u64),
+        Gate::Z(p) => z_line(p),
     }
 }
 

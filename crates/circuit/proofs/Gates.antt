@@ -10,7 +10,7 @@ use Rattle.gf2.proofs.Bits.{and-both}
 use Rattle.circuit.specs.declared.Colour.{Colour}
 use Rattle.circuit.specs.declared.Spot.{Spot}
 use Rattle.circuit.specs.declared.Gate.{Gate}
-use Rattle.circuit.specs.declared.Gate.the-variants.{Ccz, Cz, Cnot}
+use Rattle.circuit.specs.declared.Gate.the-variants.{Ccz, Cz, Cnot, Z}
 use Rattle.circuit.specs.Colours.{numberOf, sameColour}
 use Rattle.circuit.specs.Sum.{isPosition, isGate, areGates}
 
@@ -22,6 +22,7 @@ abbrev pub Valid : ℕ → Gate → Type 0
 Valid m (Ccz i j k) = Position m i × Position m j × Position m k
 Valid m (Cz p q) = Position m (p .position) × Position m (q .position) × (p .colour ≢ q .colour)
 Valid m (Cnot C c t) = Position m c × Position m t × (c ≢ t)
+Valid m (Z p) = Position m (p .position)
 
 abbrev pub AllValid : ℕ → List Gate → Type 0
 AllValid m [] = Unit {0}
@@ -57,6 +58,7 @@ valid-of m (Cnot C c t) h =
       is-position m t (and-both (isPosition m t) (not (eqb c t)) rest .0),
       λ e. not-false (eqb c t) (and-both (isPosition m t) (not (eqb c t)) rest .1) (eq-eqb c t e),
     )
+valid-of m (Z p) h = is-position m (p .position) h
 
 pub all-valid-of : (m : ℕ) (gs : List Gate) → areGates m gs ≡ true → AllValid m gs
 unfolding areGates
@@ -73,6 +75,9 @@ cz-positions m p q h = let v = valid-of m (Cz p q) h in (v .0 .1, v .1 .1)
 
 pub cnot-positions : (m : ℕ) (C : Colour) (c t : ℕ) → isGate m (Cnot C c t) ≡ true → (c ≤ m) × (t ≤ m)
 cnot-positions m C c t h = let v = valid-of m (Cnot C c t) h in (v .0 .1, v .1 .1)
+
+pub z-position : (m : ℕ) (p : Spot) → isGate m (Z p) ≡ true → p .position ≤ m
+z-position m p h = valid-of m (Z p) h .1
 
 -- A circuit has the gates of two lists joined exactly if it has those of both.
 pub gates-append : (m : ℕ) (gs hs : List Gate) → areGates m (gs ++ hs) ≡ areGates m gs && areGates m hs

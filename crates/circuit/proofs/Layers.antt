@@ -15,11 +15,11 @@ use Rattle.circuit.specs.declared.Colour.{Colour}
 use Rattle.circuit.specs.declared.Colour.the-variants.{Red, Blue, Green}
 use Rattle.circuit.specs.declared.Spot.{Spot}
 use Rattle.circuit.specs.declared.Gate.{Gate}
-use Rattle.circuit.specs.declared.Gate.the-variants.{Ccz, Cz, Cnot}
+use Rattle.circuit.specs.declared.Gate.the-variants.{Ccz, Cz, Cnot, Z}
 use Rattle.circuit.specs.Colours.{Three, numberOf, sameColour, the, first, second, join, put}
 use Rattle.circuit.specs.Sum.{Basis, replaced, isGate, areGates, signedSum}
 use Rattle.circuit.specs.Start.{carriedOver, carriedStart, withStart}
-use Rattle.circuit.specs.Polynomial.{Term, Polynomial, sameTerm, toggled, substituted, term, pair, applied, appliedAll, empty, polynomial}
+use Rattle.circuit.specs.Polynomial.{Term, Polynomial, sameTerm, toggled, substituted, term, alone, pair, applied, appliedAll, empty, polynomial}
 use Rattle.circuit.specs.Layers.{spot, touches, layerTouches, sameSpot, isAmong, usedTwice}
 use Rattle.circuit.proofs.Three.{the-join, put-join}
 use Rattle.circuit.proofs.Colours.{the-put}
@@ -35,7 +35,7 @@ use Rattle.circuit.proofs.Spots.{folded-reordered, eqb-sym, same-sym, m
 xor-last : (a b c : Bool) → (a ⊕ b) ⊕ c ≡ (a ⊕ c) ⊕ b
 xor-last a b c = simp xor-ac
 
--- ---- a CCZ or CZ adds the term of what it touches
+-- ---- a CCZ, CZ or Z adds the term of what it touches
 
 unfoldable termOf : List Spot → Term
 termOf [] = term 0 0 0
@@ -118,14 +118,17 @@ term-change m ps (Cz p q) f v a = toggled-toggled (termOf ps) (pair p q) f
 term-change m ps (Cnot C c t) f v a =
     let target = or-none (isAmong (spot C t) ps) _ (or-none (isAmong (spot C c) ps) _ a .1) .0 in
     sym (substituted-toggled C c t (termOf ps) f (absent C t ps (valid-of m (Cnot C c t) v .1 .0) target))
+term-change m ps (Z p) f v a = toggled-toggled (termOf ps) (alone p) f
 
 -- Two gates of a circuit that touch no common position may change places.
 pub apart-change : (m : ℕ) (g h : Gate) (f : Polynomial) → isGate m g ≡ true → isGate m h ≡ true → meet (touches g) (touches h) ≡ false → applied g (applied h f) ≡ applied h (applied g f)
-unfolding applied touches spot termOf term pair put join first second meet isAmong
+unfolding applied touches spot termOf term alone pair put join first second meet isAmong
 apart-change m (Ccz i j k) h f v w a = term-change m (touches (Ccz i j k)) h f w (meet-sym (touches h) (touches (Ccz i j k)) ∙ a)
 apart-change m (Cz p q) h f v w a = term-change m (touches (Cz p q)) h f w (meet-sym (touches h) (touches (Cz p q)) ∙ a)
+apart-change m (Z p) h f v w a = term-change m (touches (Z p)) h f w (meet-sym (touches h) (touches (Z p)) ∙ a)
 apart-change m (Cnot C c t) (Ccz i j k) f v w a = sym (term-change m (touches (Ccz i j k)) (Cnot C c t) f v a)
 apart-change m (Cnot C c t) (Cz p q) f v w a = sym (term-change m (touches (Cz p q)) (Cnot C c t) f v a)
+apart-change m (Cnot C c t) (Z p) f v w a = sym (term-change m (touches (Z p)) (Cnot C c t) f v a)
 apart-change m (Cnot C c t) (Cnot D d s) f v w a =
     let n = or-none (isAmong (spot C c) (touches (Cnot D d s))) _ a in
     let control = or-none (sameSpot (spot C c) (spot D s)) _ (or-none (sameSpot (spot C c) (spot D d)) _ (n .0) .1) .0 in
@@ -165,8 +168,10 @@ carried-change : (m : ℕ) (g h : Gate) (x : Basis) → isGate m g ≡ true → 
 unfolding carriedOver touches meet isAmong sameSpot spot
 carried-change m (Ccz i j k) h x v w a = refl
 carried-change m (Cz p q) h x v w a = refl
+carried-change m (Z p) h x v w a = refl
 carried-change m (Cnot C c t) (Ccz i j k) x v w a = refl
 carried-change m (Cnot C c t) (Cz p q) x v w a = refl
+carried-change m (Cnot C c t) (Z p) x v w a = refl
 carried-change m (Cnot C c t) (Cnot D d s) x v w a = go (sameColour C D) refl
   where
     n : (isAmong (spot C c) (touches (Cnot D d s)) ≡ false) × (isAmong (spot C t) (touches (Cnot D d s)) || false ≡ false)

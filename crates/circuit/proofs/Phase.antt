@@ -12,12 +12,13 @@ use Rattle.gf2.proofs.Bits.{⊕-false}
 use Rattle.circuit.specs.declared.Colour.{Colour}
 use Rattle.circuit.specs.declared.Colour.the-variants.{Red, Blue, Green}
 use Rattle.circuit.specs.declared.Gate.{Gate}
-use Rattle.circuit.specs.declared.Gate.the-variants.{Ccz, Cz, Cnot}
+use Rattle.circuit.specs.declared.Gate.the-variants.{Ccz, Cz, Cnot, Z}
 use Rattle.circuit.specs.Colours.{the, first, second, join, put}
 use Rattle.circuit.specs.Sum.{Basis, at, turned, replaced, turnsSign, leaves, Signed, carry, carryAll, areGates}
-use Rattle.circuit.specs.Polynomial.{Polynomial, substituted, term, pair, applied, appliedAll, empty, polynomial, product, value}
+use Rattle.circuit.specs.Polynomial.{Polynomial, substituted, term, alone, pair, applied, appliedAll, empty, polynomial, product, value}
 use Rattle.circuit.proofs.Three.{join-parts}
 use Rattle.circuit.proofs.Gates.{Valid, AllValid, all-valid-of}
+use Rattle.circuit.proofs.PolynomialTerms.{put-within, no-position}
 use Rattle.circuit.proofs.Value.{value-toggled, value-cnot, value-empty}
 
 abbrev pub Sized : ℕ → Basis → Type 0
@@ -60,8 +61,15 @@ unfolding leaves
 sized-leaves m (Ccz i j k) x h = h
 sized-leaves m (Cz p q) x h = h
 sized-leaves m (Cnot C c t) x h = sized-put C m (replaced c t (the C x)) x h (length-replaced c t (the C x) ∙ sized-the C m x h)
+sized-leaves m (Z p) x h = h
 
--- a CZ's term: its value, and its indices
+-- the value of a Z's term, and of a CZ's
+product-alone : (C : Colour) (a : ℕ) (x : Basis) → product (put C a (term 0 0 0)) x ≡ at a (the C x)
+unfolding product put join first second term the at bit
+product-alone Red a x = and-true (at a (x .red))
+product-alone Blue a x = and-true (at a (x .blue))
+product-alone Green a x = refl
+
 product-pair : (C D : Colour) (a b : ℕ) (x : Basis) → C ≢ D → product (put C a (put D b (term 0 0 0))) x ≡ at a (the C x) && at b (the D x)
 unfolding product put join first second term the at bit
 product-pair Red Red a b x h = absurd (h refl)
@@ -74,34 +82,25 @@ product-pair Green Red a b x h = and-comm (at b (x .red)) (at a (x .green))
 product-pair Green Blue a b x h = and-comm (at b (x .blue)) (at a (x .green))
 product-pair Green Green a b x h = absurd (h refl)
 
-pair-within : (m : ℕ) (C D : Colour) (a b : ℕ) → a ≤ m → b ≤ m → ((put C a (put D b (term 0 0 0))) .red ≤ m) × ((put C a (put D b (term 0 0 0))) .blue ≤ m) × ((put C a (put D b (term 0 0 0))) .green ≤ m)
-unfolding put join first second term
-pair-within m Red Red a b h k = (omega arith, omega arith, omega arith)
-pair-within m Red Blue a b h k = (omega arith, omega arith, omega arith)
-pair-within m Red Green a b h k = (omega arith, omega arith, omega arith)
-pair-within m Blue Red a b h k = (omega arith, omega arith, omega arith)
-pair-within m Blue Blue a b h k = (omega arith, omega arith, omega arith)
-pair-within m Blue Green a b h k = (omega arith, omega arith, omega arith)
-pair-within m Green Red a b h k = (omega arith, omega arith, omega arith)
-pair-within m Green Blue a b h k = (omega arith, omega arith, omega arith)
-pair-within m Green Green a b h k = (omega arith, omega arith, omega arith)
-
 put-is : (C : Colour) (z : BitString) (x : Basis) → put C z x ≡ join C z (first C x) (second C x)
 unfolding put
 put-is C z x = refl
 
 -- one gate
 pub phase-step : (m : ℕ) (g : Gate) (f : Polynomial) (x : Basis) → Valid m g → Sized m x → value m (applied g f) (leaves g x) ≡ value m f x ⊕ turnsSign g x
-unfolding applied leaves turnsSign term pair product
+unfolding applied leaves turnsSign term alone pair product
 phase-step m (Ccz i j k) f x v s = value-toggled m f (term i j k) x (omega arith) (omega arith) (omega arith)
 phase-step m (Cz p q) f x v s =
-    let w = pair-within m (p .colour) (q .colour) (p .position) (q .position) (omega arith) (omega arith) in
+    let w = put-within m (p .colour) (p .position) _ (omega arith) (put-within m (q .colour) (q .position) _ (omega arith) (no-position m)) in
     value-toggled m f (pair p q) x (w .0) (w .1) (w .2)
     ∙ ap (λ y. value m f x ⊕ y) (product-pair (p .colour) (q .colour) (p .position) (q .position) x (v .2))
 phase-step m (Cnot C c t) f x v s =
     ap (value m (substituted C c t f)) (put-is C (replaced c t (the C x)) x)
     ∙ value-cnot m f C c t (the C x) (first C x) (second C x) (omega arith) (omega arith) (omega arith) (v .2) (sized-the C m x s)
     ∙ ap (value m f) (join-parts C x) ∙ sym (⊕-false (value m f x))
+phase-step m (Z p) f x v s =
+    let w = put-within m (p .colour) (p .position) _ (omega arith) (no-position m) in
+    value-toggled m f (alone p) x (w .0) (w .1) (w .2) ∙ ap (λ y. value m f x ⊕ y) (product-alone (p .colour) (p .position) x)
 
 pub phase-from : (m : ℕ) (gs : List Gate) (f : Polynomial) (q : Signed) → AllValid m gs → Sized m (q .string) → q .sign ≡ value m f (q .string)
     → (carryAll gs q) .sign ≡ value m (appliedAll gs f) ((carryAll gs q) .string)

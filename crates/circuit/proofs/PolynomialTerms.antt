@@ -1,4 +1,4 @@
--- Which terms a circuit's polynomial has: one position of each colour, or two positions of different colours.
+-- Which terms a circuit's polynomial has: one, two or three positions of different colours.
 use mathlib.Core.Path.{_≡_, refl, sym, _∙_, ap, ap₂}
 use mathlib.Core.Logic.{_⊎_, inl, inr}
 use mathlib.Core.Bool.{Bool, true, false, not, _&&_, false≢true}
@@ -6,26 +6,28 @@ use mathlib.Core.List.{List, [], _∷_}
 use Prim.Native.Nat.{ℕ, _+_, _≤_}
 use native.Mathlib.Omega.{arith}
 use lib.Dec.{eqb}
-use borrow.Author.Tests.{le-leb, eqb-true, not-true}
+use borrow.Author.Tests.{le-leb, eqb-true}
 use Rattle.gf2.specs.Strings.{_⊕_}
 use Rattle.gf2.proofs.Bits.{and-both}
 use Rattle.circuit.specs.declared.Colour.{Colour}
 use Rattle.circuit.specs.declared.Colour.the-variants.{Red, Blue, Green}
 use Rattle.circuit.specs.declared.Gate.{Gate}
-use Rattle.circuit.specs.declared.Gate.the-variants.{Ccz, Cz, Cnot}
+use Rattle.circuit.specs.declared.Gate.the-variants.{Ccz, Cz, Cnot, Z}
 use Rattle.circuit.specs.Colours.{the, put, join, first, second, sameColour}
 use Rattle.circuit.specs.Sum.{isPosition, isGate, areGates}
-use Rattle.circuit.specs.Polynomial.{Term, Polynomial, term, sameTerm, empty, toggled, substituted, pair, applied, appliedAll, polynomial}
+use Rattle.circuit.specs.Polynomial.{Term, Polynomial, term, sameTerm, empty, toggled, substituted, alone, pair, applied, appliedAll, polynomial}
 use Rattle.circuit.proofs.Gates.{is-position}
 
--- A term of a circuit of m positions: at most one of its indices is 0.
+-- Indices up to m.
+abbrev pub Within : ℕ → Term → Type 0
+Within m h = (h .red ≤ m) × (h .blue ≤ m) × (h .green ≤ m)
+
+-- A term of a circuit of m positions: it has a position, and none above m.
 pub record IsTerm (m : ℕ) (h : Term) : Type 0 where
   pub red-le : h .red ≤ m
   pub blue-le : h .blue ≤ m
   pub green-le : h .green ≤ m
-  pub red-blue : 1 ≤ h .red + h .blue
-  pub red-green : 1 ≤ h .red + h .green
-  pub blue-green : 1 ≤ h .blue + h .green
+  pub some : 1 ≤ h .red + h .blue + h .green
 
 -- The polynomial has no other terms.
 abbrev pub HasTerms : ℕ → Polynomial → Type 0
@@ -57,6 +59,24 @@ position-false m p n = go (isPosition m p) refl
     go true e = absurd (n (is-position m p e .0) (is-position m p e .1))
     go false e = e
 
+-- ---- terms put together, position by position
+
+pub no-position : (m : ℕ) → Within m (term 0 0 0)
+unfolding term
+no-position m = (omega arith, omega arith, omega arith)
+
+pub put-within : (m : ℕ) (C : Colour) (a : ℕ) (h : Term) → a ≤ m → Within m h → Within m (put C a h)
+unfolding put join first second
+put-within m Red a h k w = (k, w .1, w .2)
+put-within m Blue a h k w = (w .0, k, w .2)
+put-within m Green a h k w = (w .0, w .1, k)
+
+put-term : (m : ℕ) (C : Colour) (a : ℕ) (h : Term) → (1 ≤ a) × (a ≤ m) → Within m h → IsTerm m (put C a h)
+unfolding put join first second
+put-term m Red a h p w = omega arith
+put-term m Blue a h p w = omega arith
+put-term m Green a h p w = omega arith
+
 -- ---- each gate keeps it so
 
 has-toggled : (m : ℕ) (k : Term) (f : Polynomial) → HasTerms m f → IsTerm m k → HasTerms m (toggled k f)
@@ -80,20 +100,8 @@ has-substituted m C c t f ih p q h e = go (either (f h) (eqb (the C h) c && f (p
     go (inl r) = ih h r
     go (inr r) = let s = and-both (eqb (the C h) c) (f (put C t h)) r in back C (eqb-true (the C h) c (s .0)) (ih (put C t h) (s .1))
 
-pair-term : (m : ℕ) (C D : Colour) (a b : ℕ) → sameColour C D ≡ false → (1 ≤ a) × (a ≤ m) → (1 ≤ b) × (b ≤ m) → IsTerm m (put C a (put D b (term 0 0 0)))
-unfolding put join first second term
-pair-term m Red Red a b n p q = absurd (false≢true (sym n))
-pair-term m Red Blue a b n p q = omega arith
-pair-term m Red Green a b n p q = omega arith
-pair-term m Blue Red a b n p q = omega arith
-pair-term m Blue Blue a b n p q = absurd (false≢true (sym n))
-pair-term m Blue Green a b n p q = omega arith
-pair-term m Green Red a b n p q = omega arith
-pair-term m Green Blue a b n p q = omega arith
-pair-term m Green Green a b n p q = absurd (false≢true (sym n))
-
 has-applied : (m : ℕ) (g : Gate) (f : Polynomial) → isGate m g ≡ true → HasTerms m f → HasTerms m (applied g f)
-unfolding isGate applied pair term
+unfolding isGate applied alone pair term
 has-applied m (Ccz i j k) f e t =
     let p = and-both (isPosition m i) (isPosition m j && isPosition m k) e in
     let q = and-both (isPosition m j) (isPosition m k) (p .1) in
@@ -105,12 +113,14 @@ has-applied m (Cz x y) f e t =
     let p = and-both (isPosition m (x .position)) (isPosition m (y .position) && not (sameColour (x .colour) (y .colour))) e in
     let q = and-both (isPosition m (y .position)) (not (sameColour (x .colour) (y .colour))) (p .1) in
     has-toggled m (pair x y) f t
-    (pair-term m (x .colour) (y .colour) (x .position) (y .position) (not-true (sameColour (x .colour) (y .colour)) (q .1))
-    (is-position m (x .position) (p .0)) (is-position m (y .position) (q .0)))
+    (put-term m (x .colour) (x .position) (alone y) (is-position m (x .position) (p .0))
+    (put-within m (y .colour) (y .position) (term 0 0 0) (is-position m (y .position) (q .0) .1) (no-position m)))
 has-applied m (Cnot C c t) f e h =
     let p = and-both (isPosition m c) (isPosition m t && not (eqb c t)) e in
     let q = and-both (isPosition m t) (not (eqb c t)) (p .1) in
     has-substituted m C c t f h (is-position m c (p .0)) (is-position m t (q .0))
+has-applied m (Z x) f e t =
+    has-toggled m (alone x) f t (put-term m (x .colour) (x .position) (term 0 0 0) (is-position m (x .position) e) (no-position m))
 
 has-all : (m : ℕ) (gs : List Gate) (f : Polynomial) → areGates m gs ≡ true → HasTerms m f → HasTerms m (appliedAll gs f)
 unfolding areGates appliedAll
@@ -119,7 +129,7 @@ has-all m (g ∷ gs) f e t =
     let p = and-both (isGate m g) (areGates m gs) e in
     has-all m gs (applied g f) (p .1) (has-applied m g f (p .0) t)
 
--- A term of a circuit's polynomial is one position of each colour or two positions of different colours, all of them up to m.
+-- A term of a circuit's polynomial is one, two or three positions of different colours, all of them up to m.
 pub polynomial-terms : (m : ℕ) (gs : List Gate) → areGates m gs ≡ true → HasTerms m (polynomial gs)
 unfolding polynomial empty
 polynomial-terms m gs e = has-all m gs empty e (λ h z. absurd (false≢true z))

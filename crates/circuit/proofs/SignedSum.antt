@@ -16,7 +16,7 @@ use Rattle.gf2.proofs.ZeroStrings.{zeros-zero}
 use Rattle.gf2.proofs.Bounds.{sgn-abs, sum-bound}
 use Rattle.gf2.proofs.Sums.{sum-cong, sum-cnot}
 use Rattle.circuit.specs.declared.Gate.{Gate}
-use Rattle.circuit.specs.declared.Gate.the-variants.{Ccz, Cz, Cnot}
+use Rattle.circuit.specs.declared.Gate.the-variants.{Ccz, Cz, Cnot, Z}
 use Rattle.circuit.specs.Colours.{the, join, put}
 use Rattle.circuit.specs.Sum.{Basis, at, turned, replaced, leaves, Signed, carry, carryAll, started, sumAll, dots, counted, signedSum, areGates}
 use Rattle.circuit.specs.Start.{allZeros, carriedStart, withStart}
@@ -49,6 +49,7 @@ sumAll-leaves m (Cnot C c t) F v =
     sumAll-lead C m (λ y. F (put C (replaced c t (the C y)) y))
     ∙ simp (the-join, put-join) (sum-replaced m c t (λ z. sum m (λ u. sum m (λ w. F (join C z u w)))) (omega arith) (omega arith) (v .2))
     ∙ sym (sumAll-lead C m F)
+sumAll-leaves m (Z p) F v = refl
 
 -- the string does not depend on the sign
 string-only : (gs : List Gate) (q r : Signed) → q .string ≡ r .string → (carryAll gs q) .string ≡ (carryAll gs r) .string

@@ -10,7 +10,7 @@ use borrow.Author.Tests.{eqb-true, eqb-false, eq-eqb, ne-eqb, not-true}
 use Rattle.gf2.proofs.Bits.{and-both, or-none, or-left-comm, or-ac}
 use Rattle.circuit.specs.declared.Spot.{Spot}
 use Rattle.circuit.specs.declared.Gate.{Gate}
-use Rattle.circuit.specs.declared.Gate.the-variants.{Ccz, Cz, Cnot}
+use Rattle.circuit.specs.declared.Gate.the-variants.{Ccz, Cz, Cnot, Z}
 use Rattle.circuit.specs.Colours.{numberOf, sameColour}
 use Rattle.circuit.specs.Sum.{isPosition, isGate}
 use Rattle.circuit.specs.Layers.{spot, touches, layerTouches, sameSpot, isAmong, usedTwice}
@@ -140,3 +140,4 @@ gate-touches-once m (Ccz i j k) v = refl
 gate-touches-once m (Cz p q) v =
     rw (not-true (sameColour (p .colour) (q .colour)) (and-both (isPosition m (q .position)) _ (and-both (isPosition m (p .position)) _ v .1) .1))
 gate-touches-once m (Cnot C c t) v = rw (ne-eqb c t (valid-of m (Cnot C c t) v .2), and-false)
+gate-touches-once m (Z p) v = refl

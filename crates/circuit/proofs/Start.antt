@@ -11,7 +11,7 @@ use Rattle.gf2.proofs.Strings.{dot-⊞}
 use Rattle.circuit.specs.declared.Colour.{Colour}
 use Rattle.circuit.specs.declared.Colour.the-variants.{Red, Blue, Green}
 use Rattle.circuit.specs.declared.Gate.{Gate}
-use Rattle.circuit.specs.declared.Gate.the-variants.{Ccz, Cz, Cnot}
+use Rattle.circuit.specs.declared.Gate.the-variants.{Ccz, Cz, Cnot, Z}
 use Rattle.circuit.specs.Colours.{the, first, second, join, put}
 use Rattle.circuit.specs.Sum.{Basis, replaced, turnsSign, leaves, Signed, carry, carryAll, dots, isGate}
 use Rattle.circuit.specs.Start.{carriedOver, carriedStart, withStart}
@@ -35,6 +35,7 @@ carried-twice m (Cz p q) t v = refl
 carried-twice m (Cnot C c d) t v =
     simp (the-join, put-join)
     (ap (λ (w : BitString). join C w (first C t) (second C t)) (replaced-twice d c (the C t) (ne-eqb d c (λ e. v .2 (sym e)))) ∙ join-parts C t)
+carried-twice m (Z p) t v = refl
 
 -- Taking back the last gate is carrying over it again.
 pub carried-back : (m : ℕ) (gs : List Gate) (g : Gate) (t : Basis) → isGate m g ≡ true → carriedOver g (carriedStart (gs ++ (g ∷ [])) t) ≡ carriedStart gs t
@@ -49,6 +50,7 @@ unfolding carriedOver leaves
 sized-carried m (Ccz i j k) t h = h
 sized-carried m (Cz p q) t h = h
 sized-carried m (Cnot C c d) t h = sized-leaves m (Cnot C d c) t h
+sized-carried m (Z p) t h = h
 
 pub sized-start : (m : ℕ) (gs : List Gate) (t : Basis) → Sized m t → Sized m (carriedStart gs t)
 unfolding carriedStart
@@ -71,6 +73,7 @@ dots-carried m (Cz p q) t x v ht hx = refl
 dots-carried m (Cnot C c d) t x v ht hx =
     dots-put C (replaced d c (the C t)) (replaced c d (the C x)) t x
     (dot-replaced c d (the C t) (the C x) (v .0 .0) (v .1 .0) (v .2) (omega (arith, v .0 .1, sized-the C m t ht)) (omega (arith, v .1 .1, sized-the C m x hx)))
+dots-carried m (Z p) t x v ht hx = refl
 
 -- The start's sign kept apart from the signs met on the way.
 pub kept-apart : (m : ℕ) (gs : List Gate) (t : Basis) (q : Signed) → AllValid m gs → Sized m t → Sized m (q .string)

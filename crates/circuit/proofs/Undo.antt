@@ -10,10 +10,10 @@ use Rattle.gf2.specs.Strings.{_⊕_}
 use Rattle.gf2.proofs.Bits.{⊕-assoc, ⊕-false, ⊕-self}
 use Rattle.circuit.specs.declared.Colour.{Colour}
 use Rattle.circuit.specs.declared.Gate.{Gate}
-use Rattle.circuit.specs.declared.Gate.the-variants.{Ccz, Cz, Cnot}
+use Rattle.circuit.specs.declared.Gate.the-variants.{Ccz, Cz, Cnot, Z}
 use Rattle.circuit.specs.Colours.{the, first, second, put}
 use Rattle.circuit.specs.Sum.{isGate}
-use Rattle.circuit.specs.Polynomial.{Term, Polynomial, sameTerm, toggled, substituted, term, pair, applied, appliedAll, empty, polynomial}
+use Rattle.circuit.specs.Polynomial.{Term, Polynomial, sameTerm, toggled, substituted, term, alone, pair, applied, appliedAll, empty, polynomial}
 use Rattle.circuit.proofs.Three.{the-join}
 use Rattle.circuit.proofs.Gates.{Valid, valid-of}
 
@@ -38,6 +38,7 @@ unfolding applied
 valid-applied-twice m (Ccz i j k) f v = fun-ext (toggled-twice (term i j k) f)
 valid-applied-twice m (Cz p q) f v = fun-ext (toggled-twice (pair p q) f)
 valid-applied-twice m (Cnot C c t) f v = fun-ext (substituted-twice C c t f (v .2))
+valid-applied-twice m (Z p) f v = fun-ext (toggled-twice (alone p) f)
 
 -- A gate applied twice leaves the polynomial as it was.
 pub applied-twice : (m : ℕ) (g : Gate) (f : Polynomial) → isGate m g ≡ true → applied g (applied g f) ≡ f

@@ -7,7 +7,7 @@ use Rattle.circuit.specs.declared.Colour.{Colour}
 use Rattle.circuit.specs.declared.Colour.the-variants.{Red, Blue, Green}
 use Rattle.circuit.specs.declared.Spot.{Spot}
 use Rattle.circuit.specs.declared.Gate.{Gate}
-use Rattle.circuit.specs.declared.Gate.the-variants.{Ccz, Cz, Cnot}
+use Rattle.circuit.specs.declared.Gate.the-variants.{Ccz, Cz, Cnot, Z}
 use Rattle.circuit.specs.Colours.{sameColour}
 
 -- A position of a colour.
@@ -19,6 +19,7 @@ unfoldable pub touches : Gate → List Spot
 touches (Ccz i j k) = spot Red i ∷ spot Blue j ∷ spot Green k ∷ []
 touches (Cz p q) = p ∷ q ∷ []
 touches (Cnot C c t) = spot C c ∷ spot C t ∷ []
+touches (Z p) = p ∷ []
 
 -- The positions that a layer touches: those of its gates, one gate after the other.
 unfoldable pub layerTouches : List Gate → List Spot

@@ -8,7 +8,7 @@ use Rattle.gf2.specs.Sums.{parity}
 use Rattle.circuit.specs.declared.Colour.{Colour}
 use Rattle.circuit.specs.declared.Spot.{Spot}
 use Rattle.circuit.specs.declared.Gate.{Gate}
-use Rattle.circuit.specs.declared.Gate.the-variants.{Ccz, Cz, Cnot}
+use Rattle.circuit.specs.declared.Gate.the-variants.{Ccz, Cz, Cnot, Z}
 use Rattle.circuit.specs.Colours.{Three, the, put}
 use Rattle.circuit.specs.Sum.{Basis, at}
 
@@ -38,15 +38,20 @@ toggled h f k = f k ⊕ sameTerm k h
 unfoldable pub substituted : Colour → ℕ → ℕ → Polynomial → Polynomial
 substituted C c t f h = f h ⊕ (eqb (the C h) c && f (put C t h))
 
+-- The term of a Z: its position, and none of the other two colours.
+unfoldable pub alone : Spot → Term
+alone p = put (p .colour) (p .position) (term 0 0 0)
+
 -- The term of a CZ: the two positions, and none of the third colour.
 unfoldable pub pair : Spot → Spot → Term
-pair p q = put (p .colour) (p .position) (put (q .colour) (q .position) (term 0 0 0))
+pair p q = put (p .colour) (p .position) (alone q)
 
--- What a gate makes of the polynomial: a CCZ or CZ adds its term.
+-- What a gate makes of the polynomial: a CCZ, CZ or Z adds its term.
 unfoldable pub applied : Gate → Polynomial → Polynomial
 applied (Ccz i j k) f = toggled (term i j k) f
 applied (Cz p q) f = toggled (pair p q) f
 applied (Cnot C c t) f = substituted C c t f
+applied (Z p) f = toggled (alone p) f
 
 unfoldable pub appliedAll : List Gate → Polynomial → Polynomial
 appliedAll [] f = f

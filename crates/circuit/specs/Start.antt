@@ -4,7 +4,7 @@ use mathlib.Core.List.{List, [], _∷_}
 use Prim.Native.Nat.{ℕ}
 use Rattle.gf2.specs.Strings.{_⊞_, zeros}
 use Rattle.circuit.specs.declared.Gate.{Gate}
-use Rattle.circuit.specs.declared.Gate.the-variants.{Ccz, Cz, Cnot}
+use Rattle.circuit.specs.declared.Gate.the-variants.{Ccz, Cz, Cnot, Z}
 use Rattle.circuit.specs.Colours.{the, put}
 use Rattle.circuit.specs.Sum.{Basis, replaced}
 
@@ -18,6 +18,7 @@ unfoldable pub carriedOver : Gate → Basis → Basis
 carriedOver (Ccz i j k) x = x
 carriedOver (Cz p q) x = x
 carriedOver (Cnot C c t) x = put C (replaced t c (the C x)) x
+carriedOver (Z p) x = x
 
 -- A start carried over gates in order.
 unfoldable pub carriedStart : List Gate → Basis → Basis

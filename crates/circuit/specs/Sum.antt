@@ -7,7 +7,7 @@ use lib.IntN.{ℤ}
 use Rattle.gf2.specs.Strings.{BitString, _⊕_, dot, bit, flip}
 use Rattle.gf2.specs.Sums.{sum, sgn}
 use Rattle.circuit.specs.declared.Gate.{Gate}
-use Rattle.circuit.specs.declared.Gate.the-variants.{Ccz, Cz, Cnot}
+use Rattle.circuit.specs.declared.Gate.the-variants.{Ccz, Cz, Cnot, Z}
 use Rattle.circuit.specs.Colours.{Three, the, put, sameColour}
 
 -- The positions of a colour are the numbers from 1 to m (Manual 1.1).
@@ -31,23 +31,26 @@ turned (suc p) x = flip p x
 unfoldable pub replaced : ℕ → ℕ → BitString → BitString
 replaced c t x = cond (at c x) (turned t x) x
 
--- Does a gate turn the sign at a string? A CCZ does where its three bits are 1, a CZ where its two bits are 1, a CNOT nowhere.
+-- Does a gate turn the sign at a string? A CCZ does where its three bits are 1, a CZ where its two are, a Z where its one is, a CNOT nowhere.
 unfoldable pub turnsSign : Gate → Basis → Bool
 turnsSign (Ccz i j k) x = at i (x .red) && (at j (x .blue) && at k (x .green))
 turnsSign (Cz p q) x = at (p .position) (the (p .colour) x) && at (q .position) (the (q .colour) x)
 turnsSign (Cnot C c t) x = false
+turnsSign (Z p) x = at (p .position) (the (p .colour) x)
 
 -- The string that a gate leaves: a CNOT changes the target bit of its colour, the others change nothing.
 unfoldable pub leaves : Gate → Basis → Basis
 leaves (Ccz i j k) x = x
 leaves (Cz p q) x = x
 leaves (Cnot C c t) x = put C (replaced c t (the C x)) x
+leaves (Z p) x = x
 
 -- Which gates a circuit of m positions has: positions from 1 to m, a CZ on different colours, a CNOT on different positions.
 unfoldable pub isGate : ℕ → Gate → Bool
 isGate m (Ccz i j k) = isPosition m i && (isPosition m j && isPosition m k)
 isGate m (Cz p q) = isPosition m (p .position) && (isPosition m (q .position) && not (sameColour (p .colour) (q .colour)))
 isGate m (Cnot C c t) = isPosition m c && (isPosition m t && not (eqb c t))
+isGate m (Z p) = isPosition m (p .position)
 
 unfoldable pub areGates : ℕ → List Gate → Bool
 areGates m [] = true

@@ -28,6 +28,7 @@ pub enum Gate {
     Cz(Spot, Spot),
     // A colour, the control and the target.
     Cnot(Colour, usize, usize),
+    Z(Spot),
 }
 
 pub fn number_of(c: Colour) -> usize
@@ -129,5 +130,6 @@ pub fn is_gate(m: usize, g: Gate) -> bool
         Gate::Ccz(i, j, k) => is_ccz(m, i, j, k),
         Gate::Cz(p, q) => is_cz(m, p, q),
         Gate::Cnot(colour, c, t) => is_cnot(m, colour, c, t),
+        Gate::Z(p) => is_position(m, p.position),
     }
 }

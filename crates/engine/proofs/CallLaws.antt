@@ -16,7 +16,7 @@ use Rattle.circuit.specs.Sum.{isGate}
 use Rattle.circuit.specs.Polynomial.{Polynomial, polynomial}
 use Rattle.polynomial.specs.Words.{wordsOf}
 use Rattle.listing.specs.Listing.{listing, entryOf}
-use Rattle.circuit.proofs.Gates.{ccz-positions, cz-positions, cnot-positions}
+use Rattle.circuit.proofs.Gates.{ccz-positions, cz-positions, cnot-positions, z-position}
 use Rattle.listing.proofs.TermGates.{entry-gate}
 use Rattle.held.specs.Memory.{encodeCircuit}
 use Rattle.lines.specs.Readings.{readingOf}
@@ -98,6 +98,7 @@ gate-modest : (g : Gate) → isGate 16 g ≡ true → ModestGate g
 gate-modest (Gate.Ccz i j k) h = let p = ccz-positions 16 i j k h in (omega (arith, p .0), omega (arith, p .1), omega (arith, p .2))
 gate-modest (Gate.Cz p q) h = let r = cz-positions 16 p q h in (omega (arith, r .0), omega (arith, r .1))
 gate-modest (Gate.Cnot C c t) h = let r = cnot-positions 16 C c t h in (omega (arith, r .0), omega (arith, r .1))
+gate-modest (Gate.Z p) h = omega (arith, z-position 16 p h)
 
 module _ (e : Engine) (s : State) (h buffer : List ℕ) (held : Holds e s h) (n : ℕ) where
   pub fetch-short : length buffer < 64 → FetchGiven e n buffer (record { len = 0; refusal = 1 }) buffer

@@ -6,7 +6,7 @@ use Rattle.gf2.specs.Strings.{BitString}
 use Rattle.circuit.specs.declared.Colour.{Colour}
 use Rattle.circuit.specs.declared.Spot.{Spot}
 use Rattle.circuit.specs.declared.Gate.{Gate}
-use Rattle.circuit.specs.declared.Gate.the-variants.{Ccz, Cz, Cnot}
+use Rattle.circuit.specs.declared.Gate.the-variants.{Ccz, Cz, Cnot, Z}
 use Rattle.text.specs.Reading.{capped, heldBits}
 use Rattle.gates.specs.Gates.{heldGate}
 use Rattle.forms.specs.declared.Form.{Form}
@@ -22,6 +22,7 @@ pub data HeldAs : Typed → Form → Type 0 where
   cczs : {i j k : ℕ} → HeldAs (gate (Ccz i j k)) (Form.Ccz (capped i) (capped j) (capped k))
   czs : {p q : Spot} → HeldAs (gate (Cz p q)) (Form.Cz (heldSpot p) (heldSpot q))
   cnots : {C : Colour} {c t : ℕ} → HeldAs (gate (Cnot C c t)) (Form.Cnot C (capped c) (capped t))
+  zs : {p : Spot} → HeldAs (gate (Z p)) (Form.Z (heldSpot p))
   layers : {gs : List Gate} → HeldAs (layer gs) (Form.Layer (length gs))
   undos : {k : ℕ} → HeldAs (undo k) (Form.Undo (capped k))
   starts : {r b g : BitString} → HeldAs (start r b g) (Form.Start (heldBits r) (heldBits b) (heldBits g))
@@ -38,6 +39,7 @@ held-as (circuit m) = circuits
 held-as (gate (Ccz i j k)) = cczs
 held-as (gate (Cz p q)) = czs
 held-as (gate (Cnot C c t)) = cnots
+held-as (gate (Z p)) = zs
 held-as (layer gs) = layers
 held-as (undo k) = undos
 held-as (start r b g) = starts

@@ -11,7 +11,7 @@ use lib.Seq.{drop-append-seam}
 use lib.Dec.{eqb}
 use borrow.Author.Tests.{eqb-true}
 use Rattle.circuit.specs.declared.Gate.{Gate}
-use Rattle.circuit.specs.declared.Gate.the-variants.{Ccz, Cz, Cnot}
+use Rattle.circuit.specs.declared.Gate.the-variants.{Ccz, Cz, Cnot, Z}
 use Rattle.text.specs.Spelling.{bytes, spelledGate}
 use Rattle.gates.specs.declared.GateAt.{GateAt}
 use Rattle.gates.specs.declared.GateAt.the-variants.{Read as GateRead, Missing as NoGate}
@@ -32,6 +32,7 @@ unfolding colourTwice heldGate
 held-twice (Ccz i j k) = refl
 held-twice (Cz p q) = refl
 held-twice (Cnot C c t) = refl
+held-twice (Z p) = refl
 
 pub layer-read : (gs : List Gate) (n : ℕ) (twice : Bool)
     → layerFrom 0 n twice (spelledGates gs ++ bytes ")") ≡ cond (twice || anyColourTwice gs) (Form.Refused 5) (Form.Layer (n + length gs))

@@ -1,7 +1,7 @@
 -- What the code holds of a line: numbers capped, bit strings as their length and their number modulo 2 ^ 16, of a layer the number of its gates.
 use lib.ListN.{length}
 use Rattle.circuit.specs.declared.Gate.{Gate}
-use Rattle.circuit.specs.declared.Gate.the-variants.{Ccz, Cz, Cnot}
+use Rattle.circuit.specs.declared.Gate.the-variants.{Ccz, Cz, Cnot, Z}
 use Rattle.text.specs.Reading.{capped, heldBits}
 use Rattle.gates.specs.Gates.{heldGate}
 use Rattle.forms.specs.declared.Form.{Form}
@@ -13,6 +13,7 @@ unfoldable pub gateForm : Gate → Form
 gateForm (Ccz i j k) = Form.Ccz i j k
 gateForm (Cz p q) = Form.Cz p q
 gateForm (Cnot C c t) = Form.Cnot C c t
+gateForm (Z p) = Form.Z p
 
 unfoldable pub held : Typed → Form
 held (circuit m) = Form.Circuit (capped m)

@@ -9,7 +9,7 @@ use lib.ListN.{length}
 use Rattle.gf2.specs.Strings.{BitString}
 use Rattle.circuit.specs.Colours.{sameColour}
 use Rattle.circuit.specs.declared.Gate.{Gate}
-use Rattle.circuit.specs.declared.Gate.the-variants.{Ccz, Cz, Cnot}
+use Rattle.circuit.specs.declared.Gate.the-variants.{Ccz, Cz, Cnot, Z}
 use Rattle.text.specs.Spelling.{bytes, decimal, letter, bitDigits, spelledGate}
 use Rattle.forms.specs.Typed.{amp, part, one, Typed, circuit, gate, layer, undo, start, opens, step, drop as dropped, terms, row}
 
@@ -71,6 +71,7 @@ unfoldable pub colourTwice : Gate → Bool
 colourTwice (Ccz i j k) = false
 colourTwice (Cz p q) = sameColour (p .colour) (q .colour)
 colourTwice (Cnot C c t) = false
+colourTwice (Z p) = false
 
 unfoldable pub anyColourTwice : List Gate → Bool
 anyColourTwice [] = false

@@ -1,4 +1,4 @@
--- The thirteen forms as they are typed (Manual 5), with numbers and bit strings of any length, and the row of each: all that the places of refusal
+-- The fourteen forms as they are typed (Manual 5), with numbers and bit strings of any length, and the row of each: all that the places of refusal
 -- and the book of a run ask of a form.
 use Prim.Native.Nat.{ℕ}
 use mathlib.Core.List.{List, [], _∷_}
@@ -15,7 +15,7 @@ pub data Asked : Type 0 where
   part : Colour → BitString → BitString → Asked
   one : Colour → BitString → Asked
 
--- The thirteen forms: three gates, three that open a sum, and seven more.
+-- The fourteen forms: four gates, three that open a sum, and seven more.
 pub data Typed : Type 0 where
   circuit : ℕ → Typed
   gate : Gate → Typed

@@ -21,12 +21,13 @@ use text::read_keyword;
 use text::read_number;
 use text::spaced_bits;
 
-// The thirteen forms with their operands, and the refusal of a line that is none of them.
+// The fourteen forms with their operands, and the refusal of a line that is none of them.
 pub enum Form {
     Circuit(usize),
     Ccz(usize, usize, usize),
     Cz(Spot, Spot),
     Cnot(Colour, usize, usize),
+    Z(Spot),
     // How many gates the layer has.
     Layer(usize),
     Undo(usize),
@@ -175,6 +176,7 @@ fn form_of_gate(g: Gate) -> Form
         Gate::Ccz(i, j, k) => Form::Ccz(i, j, k),
         Gate::Cz(p, q) => Form::Cz(p, q),
         Gate::Cnot(colour, control, target) => Form::Cnot(colour, control, target),
+        Gate::Z(p) => Form::Z(p),
     }
 }
 

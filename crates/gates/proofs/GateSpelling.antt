@@ -10,14 +10,14 @@ use Rattle.gf2.proofs.Impossible.{never}
 use Rattle.circuit.specs.declared.Colour.{Colour}
 use Rattle.circuit.specs.declared.Spot.{Spot}
 use Rattle.circuit.specs.declared.Gate.{Gate}
-use Rattle.circuit.specs.declared.Gate.the-variants.{Ccz, Cz, Cnot}
+use Rattle.circuit.specs.declared.Gate.the-variants.{Ccz, Cz, Cnot, Z}
 use Rattle.text.specs.Spelling.{bytes, decimal, spelledSpot, spelledGate, begins}
 use Rattle.text.specs.Reading.{capped, readKeyword}
 use Rattle.text.proofs.Items.{past, spaced}
 use Rattle.text.proofs.ItemsSpelled.{keyword-then, number-then, spaced-number-then, colour-then}
 use Rattle.text.proofs.ItemCases.{keyword-cases, number-cases, spaced-number-cases, colour-cases}
-use Rattle.text.proofs.GateItems.{cczItems, czItems, cnotItems, spot-items, ccz-items, cz-items, cnot-items}
-use Rattle.gates.specs.Gates.{heldGate, withSpot, readCcz, readSpot, readCz, readCnot, readGate, gateEnd, gatePart}
+use Rattle.text.proofs.GateItems.{cczItems, czItems, cnotItems, zItems, spot-items, ccz-items, cz-items, cnot-items, z-items}
+use Rattle.gates.specs.Gates.{heldGate, withSpot, readCcz, readSpot, readCz, readCnot, readZ, readGate, gateEnd, gatePart}
 use Rattle.gates.specs.declared.SpotAt.{SpotAt}
 use Rattle.gates.specs.declared.SpotAt.the-variants.{Read as SpotRead, Missing as NoSpot}
 use Rattle.gates.specs.declared.GateAt.{GateAt}
@@ -73,11 +73,19 @@ cz-read l at p q rest e =
     keyword-then _ _ rest _ _ (bytes ")") _ e₃ λ e₄.
     ap (GateRead (heldGate (Cz p q))) (simp length-append (omega arith))
 
+z-read : (l : List ℕ) (at : ℕ) (p : Spot) (rest : List ℕ) → drop at l ≡ zItems p rest → readZ l at ≡ GateRead (heldGate (Z p)) (at + length (zItems p []))
+unfolding readZ heldGate
+z-read l at p rest e =
+    spot-then _ _ (bytes ")" ++ rest) _ _ p _ e λ e₁.
+    keyword-then _ _ rest _ _ (bytes ")") _ e₁ λ e₂.
+    ap (GateRead (heldGate (Z p))) (simp length-append (omega arith))
+
 pub gate-read : (g : Gate) (rest : List ℕ) → readGate (spelledGate g ++ rest) ≡ GateRead (heldGate g) (length (spelledGate g))
 unfolding readGate readKeyword begins spelledGate
 gate-read (Ccz i j k) rest = ccz-read (spelledGate (Ccz i j k) ++ rest) 5 i j k rest (ap (drop 5) (ccz-items i j k rest)) ∙ ap (GateRead (heldGate (Ccz i j k))) (omega arith)
 gate-read (Cz p q) rest = cz-read (spelledGate (Cz p q) ++ rest) 4 p q rest (ap (drop 4) (cz-items p q rest)) ∙ ap (GateRead (heldGate (Cz p q))) (omega arith)
 gate-read (Cnot C c t) rest = cnot-read (spelledGate (Cnot C c t) ++ rest) 6 C c t rest (ap (drop 6) (cnot-items C c t rest)) ∙ ap (GateRead (heldGate (Cnot C c t))) (omega arith)
+gate-read (Z p) rest = z-read (spelledGate (Z p) ++ rest) 3 p rest (ap (drop 3) (z-items p rest)) ∙ ap (GateRead (heldGate (Z p))) (omega arith)
 
 none-read : readGate [] ≡ NoGate
 unfolding readGate readKeyword begins
@@ -144,11 +152,20 @@ module _ (l : List ℕ) where
       keyword-cases Front l f NoGate (bytes ")") _ none λ g e₄.
       inr (record { gate = Cnot C c t; rest = drop g l; is = e ∙ ap (λ (x : List ℕ). bytes "(cnot " ++ x) (e₁ ∙ rw (e₂, e₃, e₄)) ∙ sym (cnot-items C c t (drop g l)) })
 
+  z-front : (a : ℕ) → l ≡ bytes "(z " ++ drop a l → Front (readZ l a)
+  unfolding readZ
+  z-front a e =
+      spot-cases Front l a NoGate none _ λ p b e₁.
+      keyword-cases Front l b NoGate (bytes ")") _ none λ g e₂.
+      inr (record { gate = Z p; rest = drop g l; is = e ∙ ap (λ (x : List ℕ). bytes "(z " ++ x) (e₁ ∙ rw e₂) ∙ sym (z-items p (drop g l)) })
+
   pub gate-or-none : (readGate l ≡ NoGate) ⊎ GateFront l
   unfolding readGate
   gate-or-none =
       keyword-cases Front l 0 _ (bytes "(ccz ") _
-      (keyword-cases Front l 0 _ (bytes "(cz ") _ (keyword-cases Front l 0 _ (bytes "(cnot ") _ none cnot-front) cz-front)
+      (keyword-cases Front l 0 _ (bytes "(cz ") _
+      (keyword-cases Front l 0 _ (bytes "(cnot ") _ (keyword-cases Front l 0 _ (bytes "(z ") _ none z-front) cnot-front)
+      cz-front)
       ccz-front
 
 -- The gate that was read stands spelled at the front.

@@ -6,7 +6,7 @@ use lib.Dec.{eqb}
 use lib.ListN.{take, drop}
 use Rattle.circuit.specs.declared.Spot.{Spot}
 use Rattle.circuit.specs.declared.Gate.{Gate}
-use Rattle.circuit.specs.declared.Gate.the-variants.{Ccz, Cz, Cnot}
+use Rattle.circuit.specs.declared.Gate.the-variants.{Ccz, Cz, Cnot, Z}
 use Rattle.text.specs.Spelling.{bytes}
 use Rattle.text.specs.Reading.{capped, readKeyword, readNumber, readColour, spacedNumber, afterKeyword, withNumber, withColour}
 use Rattle.gates.specs.declared.SpotAt.{SpotAt}
@@ -20,6 +20,7 @@ heldGate (Ccz i j k) = Ccz (capped i) (capped j) (capped k)
 heldGate (Cz p q) =
     Cz (record { colour = p .colour; position = capped (p .position) }) (record { colour = q .colour; position = capped (q .position) })
 heldGate (Cnot C c t) = Cnot C (capped c) (capped t)
+heldGate (Z p) = Z (record { colour = p .colour; position = capped (p .position) })
 
 abbrev pub withSpot : {A : Type 0} → A → SpotAt → (Spot → ℕ → A) → A
 withSpot out (SpotRead s n) k = k s n
@@ -65,13 +66,21 @@ readCnot l a =
     afterKeyword NoGate (readKeyword l e (bytes ")")) λ f.
     GateRead (Cnot c i j) f
 
+-- (C i)) from a place on
+unfoldable pub readZ : List ℕ → ℕ → GateAt
+readZ l a =
+    withSpot NoGate (readSpot l a) λ s b.
+    afterKeyword NoGate (readKeyword l b (bytes ")")) λ e.
+    GateRead (Z s) e
+
 -- The gate at the front of the list, and where it ends.
 unfoldable pub readGate : List ℕ → GateAt
 readGate l =
     afterKeyword
-    (afterKeyword (afterKeyword NoGate (readKeyword l 0 (bytes "(cnot ")) (readCnot l)) (readKeyword l 0 (bytes "(cz ")) (readCz l))
-    (readKeyword l 0 (bytes "(ccz "))
-    (readCcz l)
+    (afterKeyword
+    (afterKeyword (afterKeyword NoGate (readKeyword l 0 (bytes "(z ")) (readZ l)) (readKeyword l 0 (bytes "(cnot ")) (readCnot l))
+    (readKeyword l 0 (bytes "(cz ")) (readCz l))
+    (readKeyword l 0 (bytes "(ccz ")) (readCcz l)
 
 unfoldable pub gateEnd : GateAt → ℕ
 gateEnd (GateRead g n) = n

@@ -1,8 +1,8 @@
-// The three gates, each read at the front of a part of a line.
+// The four gates, each read at the front of a part of a line.
 ghost use mathlib.Core.List.{[], _∷_};
 ghost use mathlib.Core.Path.{_≡_};
 ghost use Rattle.text.specs.Reading.{readKeyword};
-ghost use Rattle.gates.specs.Gates.{readCcz, readSpot, readCz, readCnot, readGate, gatePart, layerGateAt};
+ghost use Rattle.gates.specs.Gates.{readCcz, readSpot, readCz, readCnot, readZ, readGate, gatePart, layerGateAt};
 use circuit::Gate;
 use circuit::Spot;
 use text::ColourAt;
@@ -126,6 +126,21 @@ fn cnot(line: &[u8], a: usize) -> GateAt
     }
 }
 
+fn z(line: &[u8], a: usize) -> GateAt
+    ensures { λ r. ⌜ r ≡ readZ (now (line .entry)) a ⌝ }
+{
+    let SpotAt::Read { spot: p, next: b } = spot(line, a) else {
+        return GateAt::Missing;
+    };
+    let KeywordAt::Ends(next) = read_byte(line, b, b')') else {
+        return GateAt::Missing;
+    };
+    GateAt::Read {
+        gate: Gate::Z(p),
+        next,
+    }
+}
+
 // The gate at the front of `line`, and the place after it.
 pub fn first_gate(line: &[u8]) -> GateAt
     ensures { λ r. ⌜ r ≡ readGate (now (line .entry)) ⌝ }
@@ -138,6 +153,9 @@ pub fn first_gate(line: &[u8]) -> GateAt
     }
     if let KeywordAt::Ends(a) = read_keyword(line, 0, b"(cnot ") {
         return cnot(line, a);
+    }
+    if let KeywordAt::Ends(a) = read_keyword(line, 0, b"(z ") {
+        return z(line, a);
     }
     GateAt::Missing
 }

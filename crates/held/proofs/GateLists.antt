@@ -82,3 +82,4 @@ module _ (m n : ℕ) (more : m ≤ n) where
       let rest = and-both (isPosition m c) (isPosition m t && not (eqb c t)) h .1 in
       rw (position-more c (and-both (isPosition m c) _ h .0), position-more t (and-both (isPosition m t) _ rest .0))
       (and-both (isPosition m t) _ rest .1)
+  gate-more (Gate.Z p) h = position-more (p .position) h

@@ -62,6 +62,7 @@ pub(crate) fn over_gate(start: Numbers, m: usize, g: Gate) -> Numbers
         Gate::Ccz(_, _, _) => start,
         Gate::Cz(_, _) => start,
         Gate::Cnot(colour, control, target) => over_cnot(start, m, colour, control, target),
+        Gate::Z(_) => start,
     }
 }
 

@@ -7,19 +7,22 @@ use native.Mathlib.Omega.{arith}
 use Rattle.circuit.specs.declared.Colour.{Colour}
 use Rattle.circuit.specs.declared.Colour.the-variants.{Red, Blue, Green}
 use Rattle.circuit.specs.declared.Gate.{Gate}
-use Rattle.circuit.specs.declared.Gate.the-variants.{Ccz, Cz, Cnot}
+use Rattle.circuit.specs.declared.Gate.the-variants.{Ccz, Cz, Cnot, Z}
 use Rattle.circuit.specs.Colours.{numberOf}
 use Rattle.circuit.specs.Sum.{isGate}
 use Rattle.history.specs.History.{packed, codeOf, gateOfKind, gateOf}
 use Rattle.circuit.proofs.Colours.{number-lt}
-use Rattle.circuit.proofs.Gates.{ccz-positions, cz-positions, cnot-positions}
+use Rattle.circuit.proofs.Gates.{ccz-positions, cz-positions, cnot-positions, z-position}
 
--- The kinds of a CZ and of a CNOT.
+-- The kinds of a CZ, of a CNOT and of a Z.
 pub cz-kind : (C D : Colour) → 1 + numberOf C * 3 + numberOf D ≤ 9
 cz-kind C D = omega (arith, number-lt C, number-lt D)
 
 pub cnot-kind : (C : Colour) → 10 + numberOf C ≤ 12
 cnot-kind C = omega (arith, number-lt C)
+
+pub z-kind : (C : Colour) → 13 + numberOf C ≤ 15
+z-kind C = omega (arith, number-lt C)
 
 -- The digits are found again.
 gateOf-packed : (kind a b c : ℕ) → a < 32 → b < 32 → c < 32 → gateOf (packed kind a b c) ≡ gateOfKind kind a b c
@@ -57,6 +60,12 @@ kind-of-cnot Red c t = refl
 kind-of-cnot Blue c t = refl
 kind-of-cnot Green c t = refl
 
+kind-of-z : (C : Colour) (a : ℕ) → gateOfKind (13 + numberOf C) a 0 0 ≡ Z (record { colour = C; position = a })
+unfolding gateOfKind
+kind-of-z Red a = refl
+kind-of-z Blue a = refl
+kind-of-z Green a = refl
+
 pub gateOf-codeOf : (g : Gate) → isGate 16 g ≡ true → gateOf (codeOf g) ≡ g
 unfolding codeOf gateOfKind
 gateOf-codeOf (Ccz i j k) h =
@@ -70,3 +79,6 @@ gateOf-codeOf (Cz p q) h =
 gateOf-codeOf (Cnot C c t) h =
     let l = cnot-positions 16 C c t h in
     gateOf-packed (10 + numberOf C) c t 0 (omega arith) (omega arith) (omega arith) ∙ kind-of-cnot C c t
+gateOf-codeOf (Z p) h =
+    let l = z-position 16 p h in
+    gateOf-packed (13 + numberOf (p .colour)) (p .position) 0 0 (omega arith) (omega arith) (omega arith) ∙ kind-of-z (p .colour) (p .position)

@@ -7,7 +7,7 @@ use circuit::Spot;
 
 // Four digits in base 32.
 fn packed(kind: usize, a: usize, b: usize, c: usize) -> u32
-    requires { ⌜ kind ≤ 12 ⌝ }
+    requires { ⌜ kind ≤ 15 ⌝ }
     ensures { λ r. ⌜ r ≡ packed kind a b c ⌝ }
 {
     (kind * 32768 + a % 32 * 1024 + b % 32 * 32 + c % 32) as u32
@@ -26,6 +26,13 @@ fn cz_code(p: Spot, q: Spot) -> u32
     )
 }
 
+fn z_code(p: Spot) -> u32
+    ensures { λ r. ⌜ r ≡ codeOf (Gate.Z p) ⌝ }
+{
+    let colour = p.colour;
+    packed(13 + circuit::number_of(colour), p.position, 0, 0)
+}
+
 pub fn code(g: Gate) -> u32
     ensures { λ r. ⌜ r ≡ codeOf g ⌝ }
 {
@@ -33,6 +40,7 @@ pub fn code(g: Gate) -> u32
         Gate::Ccz(i, j, k) => packed(0, i, j, k),
         Gate::Cz(p, q) => cz_code(p, q),
         Gate::Cnot(colour, c, t) => packed(10 + circuit::number_of(colour), c, t, 0),
+        Gate::Z(p) => z_code(p),
     }
 }
 
@@ -59,5 +67,11 @@ pub fn gate(code: u32) -> Gate
             },
         );
     }
-    Gate::Cnot(circuit::colour_of(kind - 10), a, b)
+    if kind < 13 {
+        return Gate::Cnot(circuit::colour_of(kind - 10), a, b);
+    }
+    Gate::Z(Spot {
+        colour: circuit::colour_of(kind - 13),
+        position: a,
+    })
 }

@@ -67,7 +67,8 @@ fn ask_all(state: State, history: &mut [u32], text: &[u8]) -> State {
 }
 
 // Known sums (Manual 14): no gates; one CCZ, its readouts with red unread, and only green read; the CCZ twice; one CZ; a CCZ and then a CNOT;
-// a CNOT and then a CCZ; a start and then a CNOT, with a readout and only red read, the CNOT taken back and given again; a CNOT and then a start.
+// a CNOT and then a CCZ; a start and then a CNOT, with a readout and only red read, the CNOT taken back and given again; a CNOT and then a start;
+// one Z, with readouts and only red read, the Z twice and taken back; a Z and then a CNOT; a CNOT and then a Z.
 fn sums(state: State, history: &mut [u32]) -> State {
     ask_all(
         state,
@@ -83,7 +84,12 @@ fn sums(state: State, history: &mut [u32]) -> State {
         (circuit 2)\n(start 01 00 00)\n(cnot r 1 2)\n(amp r 11 00 00)\n(step 4)\n(amp b 01 00 00)\n(step 4)\n\
         (part g 11 00)\n(step 4)\n(part b 01 00)\n(step 4)\n(one r 11)\n(step 4)\n(one r 01)\n(step 4)\n\
         (undo 1)\n(amp g 01 00 00)\n(step 4)\n(cnot r 1 2)\n(amp b 11 00 00)\n(step 4)\n\
-        (circuit 2)\n(cnot r 1 2)\n(start 01 00 00)\n(amp g 11 00 00)\n(step 4)\n(amp r 01 00 00)\n(step 4)\n",
+        (circuit 2)\n(cnot r 1 2)\n(start 01 00 00)\n(amp g 11 00 00)\n(step 4)\n(amp r 01 00 00)\n(step 4)\n\
+        (circuit 1)\n(z (r 1))\n(amp r 1 0 0)\n(step 2)\n(amp b 0 0 0)\n(step 2)\n\
+        (part g 1 0)\n(step 2)\n(part g 0 0)\n(step 2)\n(one r 1)\n(step 2)\n(one r 0)\n(step 2)\n\
+        (z (r 1))\n(amp g 0 0 0)\n(step 2)\n(undo 1)\n(amp g 1 0 0)\n(step 2)\n\
+        (circuit 2)\n(z (r 1))\n(cnot r 2 1)\n(terms)\n(amp r 11 00 00)\n(step 4)\n(amp b 10 00 00)\n(step 4)\n\
+        (circuit 2)\n(cnot r 2 1)\n(z (r 1))\n(terms)\n(amp g 10 00 00)\n(step 4)\n(amp r 11 00 00)\n(step 4)\n",
     )
 }
 
@@ -95,12 +101,13 @@ fn ask_long(state: State, history: &mut [u32], name: &[u8], last: usize) -> Stat
     ask_as(state, history, name, framing::front(&line, len))
 }
 
-fn ask_layer(state: State, history: &mut [u32], name: &[u8], gates: usize) -> State {
+// A layer of the gates in `part`, so many times over.
+fn ask_layer(state: State, history: &mut [u32], name: &[u8], part: &[u8], times: usize) -> State {
     let mut line = [0u8; framing::KEPT];
     let mut at = framing::put(&mut line, 0, b"(layer");
     let mut i = 0;
-    while i < gates {
-        at = framing::put(&mut line, at, b" (ccz 1 1 1)");
+    while i < times {
+        at = framing::put(&mut line, at, part);
         i += 1;
     }
     let len = framing::put(&mut line, at, b")");
@@ -112,15 +119,54 @@ fn line_edges(state: State, history: &mut [u32]) -> State {
     ask_long(taken, history, b"(circuit 1..1) of 1,025 bytes", 1024)
 }
 
-// The same number in three colours is no clash. 48 gates show only that 9 is not given: they touch a position twice (Manual 5.5).
+// A layer of 48 gates that is taken: a Z on each position of the three colours. Its amplitude at ones everywhere is 1.
+fn full_layer(state: State, history: &mut [u32]) -> State {
+    let taken = ask_layer(
+        state,
+        history,
+        b"(layer ..) of a z on each of 48 positions",
+        b" (z (r 1)) (z (r 2)) (z (r 3)) (z (r 4)) (z (r 5)) (z (r 6)) (z (r 7)) (z (r 8)) (z (r 9)) \
+        (z (r 10)) (z (r 11)) (z (r 12)) (z (r 13)) (z (r 14)) (z (r 15)) (z (r 16)) \
+        (z (b 1)) (z (b 2)) (z (b 3)) (z (b 4)) (z (b 5)) (z (b 6)) (z (b 7)) (z (b 8)) (z (b 9)) \
+        (z (b 10)) (z (b 11)) (z (b 12)) (z (b 13)) (z (b 14)) (z (b 15)) (z (b 16)) \
+        (z (g 1)) (z (g 2)) (z (g 3)) (z (g 4)) (z (g 5)) (z (g 6)) (z (g 7)) (z (g 8)) (z (g 9)) \
+        (z (g 10)) (z (g 11)) (z (g 12)) (z (g 13)) (z (g 14)) (z (g 15)) (z (g 16))",
+        1,
+    );
+    ask_all(
+        taken,
+        history,
+        b"(terms)\n(amp r 1111111111111111 1111111111111111 1111111111111111)\n(step 65536)\n",
+    )
+}
+
+// One gate many times in a layer touches a position twice: 48 times show only that 9 is not given (Manual 5.5).
+fn same_gate_edges(state: State, history: &mut [u32]) -> State {
+    let refused = ask_layer(
+        state,
+        history,
+        b"(layer ..) of 48 times (ccz 1 1 1)",
+        b" (ccz 1 1 1)",
+        48,
+    );
+    ask_layer(
+        refused,
+        history,
+        b"(layer ..) of 49 times (ccz 1 1 1)",
+        b" (ccz 1 1 1)",
+        49,
+    )
+}
+
+// The same number in three colours is no clash. 48 gates are the most that a layer has.
 fn layer_edges(state: State, history: &mut [u32]) -> State {
     let fired = ask_all(
         state,
         history,
         b"(layer (cnot r 1 2) (cnot b 1 2) (cnot g 1 2))\n(layer (ccz 1 1 1) (cz (r 2) (b 1)))\n",
     );
-    let refused = ask_layer(fired, history, b"(layer ..) of 48 gates", 48);
-    ask_layer(refused, history, b"(layer ..) of 49 gates", 49)
+    let full = full_layer(fired, history);
+    same_gate_edges(full, history)
 }
 
 fn buffer_edges(state: State, history: &mut [u32]) -> State {

@@ -9,7 +9,7 @@ use Rattle.circuit.specs.declared.Colour.{Colour}
 use Rattle.circuit.specs.declared.Colour.the-variants.{Red, Blue, Green}
 use Rattle.circuit.specs.declared.Spot.{Spot}
 use Rattle.circuit.specs.declared.Gate.{Gate}
-use Rattle.circuit.specs.declared.Gate.the-variants.{Ccz, Cz, Cnot}
+use Rattle.circuit.specs.declared.Gate.the-variants.{Ccz, Cz, Cnot, Z}
 use Rattle.text.specs.Spelling.{bytes, decimal, letter, bitDigits, spelledSpot, spelledGate}
 use Rattle.text.proofs.Decimal.{Digits, decimal-digits}
 use Rattle.forms.specs.Typed.{amp, part, one, Typed, circuit, gate, layer, undo, start, opens, step, drop as dropped, terms}
@@ -58,6 +58,7 @@ unfolding spelledGate allAllowed isAllowed
 gate-allowed (Ccz i j k) = number-allowed i _ (number-allowed j _ (number-allowed k (bytes ")") refl))
 gate-allowed (Cz p q) = allowed-append (spelledSpot p) _ (spot-allowed p) (allowed-append (spelledSpot q) (bytes ")") (spot-allowed q) refl)
 gate-allowed (Cnot C c t) = rw (letter-allowed C) (number-allowed c _ (number-allowed t (bytes ")") refl))
+gate-allowed (Z p) = allowed-append (spelledSpot p) (bytes ")") (spot-allowed p) refl
 
 gates-allowed : (gs : List Gate) → Allowed (spelledGates gs)
 unfolding spelledGates allAllowed isAllowed

@@ -8,7 +8,7 @@ use mathlib.Core.List.{List, _∷_, _++_, map}
 use native.Mathlib.Nat.{zero-add}
 use lib.ListN.{length, drop}
 use Rattle.circuit.specs.declared.Gate.{Gate}
-use Rattle.circuit.specs.declared.Gate.the-variants.{Ccz, Cz, Cnot}
+use Rattle.circuit.specs.declared.Gate.the-variants.{Ccz, Cz, Cnot, Z}
 use Rattle.text.specs.Spelling.{bytes, letter, spelledGate, begins}
 use Rattle.text.specs.Reading.{readKeyword}
 use Rattle.text.proofs.ItemsSpelled.{colour-then}
@@ -37,6 +37,7 @@ read-spelled (circuit m) h = number-form-read (spelled (circuit m)) 9 m Form.Cir
 read-spelled (gate (Ccz i j k)) h = gate-line-read (Ccz i j k) ∙ rw (or-false (colourTwice (Ccz i j k)))
 read-spelled (gate (Cz p q)) h = gate-line-read (Cz p q) ∙ rw (or-false (colourTwice (Cz p q)))
 read-spelled (gate (Cnot C c t)) h = gate-line-read (Cnot C c t) ∙ rw (or-false (colourTwice (Cnot C c t)))
+read-spelled (gate (Z p)) h = gate-line-read (Z p) ∙ rw (or-false (colourTwice (Z p)))
 read-spelled (layer gs) h = layer-read gs 0 false ∙ rw (zero-add (length gs))
 read-spelled (undo k) h = number-form-read (spelled (undo k)) 6 k Form.Undo refl
 read-spelled (start r b g) h = three-strings-read (spelled (start r b g)) 6 r b g Form.Start h refl

@@ -5,7 +5,7 @@ use mathlib.Core.List.{List, [], _∷_, _++_, append-assoc}
 use lib.ListN.{length, drop}
 use lib.Seq.{drop-append-seam}
 use Rattle.circuit.specs.declared.Gate.{Gate}
-use Rattle.circuit.specs.declared.Gate.the-variants.{Ccz, Cz, Cnot}
+use Rattle.circuit.specs.declared.Gate.the-variants.{Ccz, Cz, Cnot, Z}
 use Rattle.text.specs.Spelling.{bytes, spelledGate, begins}
 use Rattle.text.proofs.Decimal.{value-decimal}
 use Rattle.text.proofs.BitDigits.{front-bits, after-bits}
@@ -36,6 +36,7 @@ typed-of-spelled (circuit m) = rw (value-decimal m (bytes ")") refl)
 typed-of-spelled (gate (Ccz i j k)) = ap gate (gate-of-line (Ccz i j k))
 typed-of-spelled (gate (Cz p q)) = ap gate (gate-of-line (Cz p q))
 typed-of-spelled (gate (Cnot C c t)) = ap gate (gate-of-line (Cnot C c t))
+typed-of-spelled (gate (Z p)) = ap gate (gate-of-line (Z p))
 typed-of-spelled (layer gs) = ap layer (gates-of-spelled gs)
 typed-of-spelled (undo k) = rw (value-decimal k (bytes ")") refl)
 typed-of-spelled (start r b g) = simp (front-bits, after-bits)

@@ -1,8 +1,9 @@
 -- The cells, one after the other, are the listing of 16 positions.
-use mathlib.Core.Path.{_≡_, refl, sym, _∙_, ap, ap₂}
+use mathlib.Core.Path.{_≡_, refl, sym, _∙_, ap, ap₂, fun-ext}
 use mathlib.Core.Bool.{Bool, true, false, cond, _&&_, and-false, and-true}
-use mathlib.Core.List.{List, [], _∷_, _++_, append-nil, map, map-append}
+use mathlib.Core.List.{List, [], _∷_, _++_, append-nil, map, map-append, flatten}
 use Prim.Native.Nat.{ℕ, zero, suc, _+_, _*_, _-_, _/_, _%_, _^_, _≤_, _<_}
+use native.Mathlib.Nat.{zero-add}
 use native.Mathlib.Numerals.{add-one}
 use native.Mathlib.Omega.{arith}
 use lib.Bits.{bitAnd, and-le-r}
@@ -18,12 +19,13 @@ use Rattle.circuit.specs.declared.Colour.the-variants.{Red, Blue, Green}
 use Rattle.listing.specs.declared.Entry.the-variants.{Listed, Nothing}
 use Rattle.circuit.specs.Colours.{join}
 use Rattle.circuit.specs.Polynomial.{Term, Polynomial, term}
-use Rattle.listing.specs.Listing.{overPositions, triples, pairsBeside, everyTerm, among, listing, gateOfTerm, entryOf}
+use Rattle.listing.specs.Listing.{overPositions, triples, pairsBeside, singles, among, listing, gateOfTerm, entryOf}
 use Rattle.polynomial.specs.Words.{wordsOf}
 use Rattle.listing.specs.Cells.{concatBelow, marked, cellRed, cellBlue, cellMask, cellWord, cellTerms}
-use Rattle.listing.proofs.Concat.{concatBelow-cong, concatBelow-add, concatBelow-rows, concatBelow-inside, marked-cong, ones-marked}
+use Rattle.listing.proofs.Concat.{concatBelow-cong, concatBelow-rows, concatBelow-inside, runs, concatBelow-runs, marked-cong, ones-marked}
 use Rattle.polynomial.proofs.PolynomialWords.{word-at}
 use Rattle.listing.proofs.Entries.{among-append, entryOf-front, entryOf-behind, entryOf-past, entryOf-getD}
+use Rattle.listing.proofs.Parts.{Kind, triple, pairBeside, single, partOf, kinds, listing-kinds}
 
 -- ---- listings of parts
 
@@ -42,38 +44,41 @@ among-two f g =
 
 -- ---- a cell
 
-cellRed-le : (n : ℕ) → n < 544 → cellRed n ≤ 16
-unfolding cellRed
-cellRed-le n h = go (ltb n 512) (ltb n 528) refl
+-- One of two numbers, the first of them where n < b.
+either-le : (k n b : ℕ) {x y : ℕ} → (n < b → x ≤ k) → y ≤ k → cond (ltb n b) x y ≤ k
+either-le k n b {x} {y} f h = go (ltb n b) refl
   where
-    go : (x y : Bool) → ltb n 528 ≡ y → cond x (n % 256 / 16 + 1) (cond y (n - 511) 0) ≤ 16
-    go true y e = omega arith
-    go false true e = omega (arith, ltb-true n 528 e)
-    go false false e = omega arith
+    go : (t : Bool) → ltb n b ≡ t → cond t x y ≤ k
+    go true e = f (ltb-true n b e)
+    go false e = h
 
-cellBlue-le : (n : ℕ) → n < 544 → cellBlue n ≤ 16
+cellRed-le : (n : ℕ) → cellRed n ≤ 16
+unfolding cellRed
+cellRed-le n =
+    either-le 16 n 512 (λ l. omega arith)
+    (either-le 16 n 528 (λ l. omega arith) (either-le 16 n 544 (λ l. omega arith) (either-le 16 n 560 (λ l. omega arith) (omega arith))))
+
+cellBlue-le : (n : ℕ) → cellBlue n ≤ 16
 unfolding cellBlue
-cellBlue-le n h = go (ltb n 512) (ltb n 528)
-  where
-    go : (x y : Bool) → cond x (n % 16 + 1) (cond y 0 (n - 527)) ≤ 16
-    go true y = omega arith
-    go false true = omega arith
-    go false false = omega arith
+cellBlue-le n =
+    either-le 16 n 512 (λ l. omega arith)
+    (either-le 16 n 528 (λ l. omega arith)
+    (either-le 16 n 544 (λ l. omega arith) (either-le 16 n 560 (λ l. omega arith) (either-le 16 n 576 (λ l. omega arith) (omega arith)))))
 
 -- Its word is one of the 289.
-pub cell-index : (n : ℕ) → n < 544 → 17 * cellRed n + cellBlue n < 289
-cell-index n h = omega (arith, cellRed-le n h, cellBlue-le n h)
+pub cell-index : (n : ℕ) → 17 * cellRed n + cellBlue n < 289
+cell-index n = omega (arith, cellRed-le n, cellBlue-le n)
+
+cellMask-le : (n : ℕ) → cellMask n ≤ 131071
+unfolding cellMask
+cellMask-le n =
+    either-le 131071 n 256 (λ l. omega arith)
+    (either-le 131071 n 512 (λ l. omega arith) (either-le 131071 n 544 (λ l. omega arith) (either-le 131071 n 576 (λ l. omega arith) (omega arith))))
 
 -- A cell has at most 17 bits.
 pub cellWord-lt : (words : List ℕ) (n : ℕ) → cellWord words n < 2 ^ 17
-unfolding cellWord cellMask
-cellWord-lt words n =
-    let mask : cellMask n < 2 ^ 17 = of-two (ltb n 256) (omega arith) (of-two (ltb n 512) (omega arith) (omega arith)) in
-    omega (arith, and-le-r (getD words (17 * cellRed n + cellBlue n) 0) (cellMask n))
-  where
-    of-two : (b : Bool) {x y : ℕ} → x < 2 ^ 17 → y < 2 ^ 17 → cond b x y < 2 ^ 17
-    of-two true h k = h
-    of-two false h k = k
+unfolding cellWord
+cellWord-lt words n = omega (arith, cellMask-le n, and-le-r (getD words (17 * cellRed n + cellBlue n) 0) (cellMask n))
 
 -- How many terms it has.
 pub length-cellTerms : (words : List ℕ) (n : ℕ) → length (cellTerms words n) ≡ ones (cellWord words n)
@@ -90,20 +95,20 @@ length-cells-more words n =
 
 -- ---- a place of the listing in its cell
 
-pub entry-inside : (words : List ℕ) (n at left : ℕ) → at < 544 → n ≡ length (concatBelow at (cellTerms words)) + left → left < ones (cellWord words at)
-    → entryOf (concatBelow 544 (cellTerms words)) n ≡ entryOf (cellTerms words at) left
+pub entry-inside : (words : List ℕ) (n at left : ℕ) → at < 577 → n ≡ length (concatBelow at (cellTerms words)) + left → left < ones (cellWord words at)
+    → entryOf (concatBelow 577 (cellTerms words)) n ≡ entryOf (cellTerms words at) left
 entry-inside words n at left h e l =
-    ap₂ entryOf (concatBelow-inside at 544 (cellTerms words) h) e
+    ap₂ entryOf (concatBelow-inside at 577 (cellTerms words) h) e
     ∙ entryOf-behind (concatBelow at (cellTerms words)) (cellTerms words at ++ rest) left
     ∙ entryOf-front (cellTerms words at) rest left (omega (arith, length-cellTerms words at))
   where
     rest : List Term
-    rest = concatBelow (544 - suc at) (λ k. cellTerms words (suc at + k))
+    rest = concatBelow (577 - suc at) (λ k. cellTerms words (suc at + k))
 
-pub entry-last : (words : List ℕ) (n left : ℕ) → n ≡ length (concatBelow 543 (cellTerms words)) + left
-    → entryOf (concatBelow 544 (cellTerms words)) n ≡ entryOf (cellTerms words 543) left
+pub entry-last : (words : List ℕ) (n left : ℕ) → n ≡ length (concatBelow 576 (cellTerms words)) + left
+    → entryOf (concatBelow 577 (cellTerms words)) n ≡ entryOf (cellTerms words 576) left
 unfolding concatBelow
-entry-last words n left e = ap (entryOf (concatBelow 544 (cellTerms words))) e ∙ entryOf-behind (concatBelow 543 (cellTerms words)) (cellTerms words 543) left
+entry-last words n left e = ap (entryOf (concatBelow 577 (cellTerms words))) e ∙ entryOf-behind (concatBelow 576 (cellTerms words)) (cellTerms words 576) left
 
 pub entry-past : (words : List ℕ) (at left : ℕ) → ones (cellWord words at) ≤ left → entryOf (cellTerms words at) left ≡ Nothing
 entry-past words at left h = entryOf-past (cellTerms words at) left (omega (arith, length-cellTerms words at))
@@ -121,12 +126,15 @@ entry-here words at left h =
 
 -- ---- a cell of a polynomial's words
 
-cell-at : (f : Polynomial) (n i j mask : ℕ) → cellRed n ≡ i → cellBlue n ≡ j → cellMask n ≡ mask → i ≤ 16 → j ≤ 16
-    → cellTerms (wordsOf f) n ≡ map (term i j) (marked 17 (λ k. f (term i j k) && bitAt mask k))
+-- The red index of a cell's terms, the blue index, and the mask.
+abbrev CellIs : ℕ → ℕ → ℕ → ℕ → Type 0
+CellIs n i j mask = (cellRed n ≡ i) × (cellBlue n ≡ j) × (cellMask n ≡ mask)
+
+cell-at : (f : Polynomial) (n i j mask : ℕ) → CellIs n i j mask → cellTerms (wordsOf f) n ≡ map (term i j) (marked 17 (λ k. f (term i j k) && bitAt mask k))
 unfolding cellTerms cellWord
-cell-at f n i j mask p q r hi hj =
-    ap₂ (λ (a b : ℕ). map (term a b) (marked 17 (bitAt (bitAnd (getD (wordsOf f) (17 * a + b) 0) (cellMask n))))) p q
-    ∙ ap₂ (λ (w x : ℕ). map (term i j) (marked 17 (bitAt (bitAnd w x)))) (word-at f i j hi hj) r
+cell-at f n i j mask is =
+    ap₂ (λ (a b : ℕ). map (term a b) (marked 17 (bitAt (bitAnd (getD (wordsOf f) (17 * a + b) 0) (cellMask n))))) (is .0) (is .1)
+    ∙ ap₂ (λ (w x : ℕ). map (term i j) (marked 17 (bitAt (bitAnd w x)))) (word-at f i j (omega (arith, cellRed-le n)) (omega (arith, cellBlue-le n))) (is .2)
     ∙ ap (map (term i j)) (marked-cong 17 (bitAt (bitAnd (wordOf 32 g) mask)) (λ k. g k && bitAt mask k)
     (λ k h. bitAt-and (wordOf 32 g) mask k ∙ ap (λ b. b && bitAt mask k) (bitAt-wordOf-lt 32 g k (omega arith))))
   where
@@ -165,97 +173,116 @@ bit-zero f t (suc m) =
     ∙ ap₂ _++_ (bit-zero f t m) (ap (λ b. map t (cond b (suc m ∷ []) [])) (ap (λ b. f (t (suc m)) && b) (eqb·suc-zero m) ∙ and-false (f (t (suc m)))))
     ∙ append-nil (among f (t 0 ∷ []))
 
-cell-positions : (f : Polynomial) (n i j : ℕ) → cellRed n ≡ i → cellBlue n ≡ j → cellMask n ≡ 131070 → i ≤ 16 → j ≤ 16
-    → cellTerms (wordsOf f) n ≡ among f (overPositions 16 (λ k. term i j k ∷ []))
-cell-positions f n i j p q r hi hj =
-    cell-at f n i j 131070 p q r hi hj
+cell-positions : (f : Polynomial) (n i j : ℕ) → CellIs n i j 131070 → cellTerms (wordsOf f) n ≡ among f (overPositions 16 (λ k. term i j k ∷ []))
+cell-positions f n i j is =
+    cell-at f n i j 131070 is
     ∙ ap (map (term i j)) (marked-cong 17 (λ k. f (term i j k) && bitAt 131070 k) (λ k. f (term i j k) && ltb 0 k) (λ k h. ap (λ b. f (term i j k) && b) (upper-bits k h)))
     ∙ over-bits f (term i j) 16
 
-cell-single : (f : Polynomial) (n i j : ℕ) → cellRed n ≡ i → cellBlue n ≡ j → cellMask n ≡ 1 → i ≤ 16 → j ≤ 16
-    → cellTerms (wordsOf f) n ≡ among f (term i j 0 ∷ [])
-cell-single f n i j p q r hi hj =
-    cell-at f n i j 1 p q r hi hj
+cell-single : (f : Polynomial) (n i j : ℕ) → CellIs n i j 1 → cellTerms (wordsOf f) n ≡ among f (term i j 0 ∷ [])
+cell-single f n i j is =
+    cell-at f n i j 1 is
     ∙ ap (map (term i j)) (marked-cong 17 (λ k. f (term i j k) && bitAt 1 k) (λ k. f (term i j k) && eqb k 0) (λ k h. ap (λ b. f (term i j k) && b) (bitAt-pow k 0)))
     ∙ bit-zero f (term i j) 16
 
--- ---- the four kinds of cells
+-- ---- the kinds of cells
 
-red-of-word : (n i : ℕ) → n < 512 → n % 256 / 16 + 1 ≡ i → cellRed n ≡ i
-unfolding cellRed
-red-of-word n i h e = rw (lt-ltb n 512 h) e
+module _ (n : ℕ) where
+  ccz-cell : n < 256 → CellIs (0 + n) (suc (n / 16)) (suc (n % 16)) 131070
+  unfolding cellRed cellBlue cellMask
+  ccz-cell h = let c = 0 + n in rw (lt-ltb c 256 (omega arith), lt-ltb c 512 (omega arith)) (omega arith, omega arith, refl)
 
-blue-of-word : (n j : ℕ) → n < 512 → n % 16 + 1 ≡ j → cellBlue n ≡ j
-unfolding cellBlue
-blue-of-word n j h e = rw (lt-ltb n 512 h) e
+  red-blue-cell : n < 256 → CellIs (256 + n) (suc (n / 16)) (suc (n % 16)) 1
+  unfolding cellRed cellBlue cellMask
+  red-blue-cell h = let c = 256 + n in rw (le-ltb c 256 (omega arith), lt-ltb c 512 (omega arith)) (omega arith, omega arith, refl)
 
-cells-ccz : (f : Polynomial) → among f (triples 16) ≡ concatBelow 256 (cellTerms (wordsOf f))
-unfolding triples cellMask
-cells-ccz f =
-    among-two f (λ i j. overPositions 16 (λ k. term i j k ∷ []))
-    ∙ concatBelow-cong 256 (λ n. among f (overPositions 16 (λ k. term (suc (n / 16)) (suc (n % 16)) k ∷ []))) (cellTerms (wordsOf f))
-    (λ n h. sym (cell-positions f n (suc (n / 16)) (suc (n % 16)) (red-of-word n _ (omega arith) (omega arith)) (blue-of-word n _ (omega arith) (omega arith)) (rw (lt-ltb n 256 h)) (omega arith) (omega arith)))
+  red-green-cell : n < 16 → CellIs (512 + n) (suc n) 0 131070
+  unfolding cellRed cellBlue cellMask
+  red-green-cell h =
+      let c = 512 + n in
+      rw (le-ltb c 256 (omega arith), le-ltb c 512 (omega arith), lt-ltb c 528 (omega arith), lt-ltb c 544 (omega arith)) (omega arith, refl, refl)
 
-cells-red-blue : (f : Polynomial) → among f (pairsBeside Green 16) ≡ concatBelow 256 (λ n. cellTerms (wordsOf f) (256 + n))
-unfolding pairsBeside join term cellMask
-cells-red-blue f =
-    among-two f (λ i j. term i j 0 ∷ [])
-    ∙ concatBelow-cong 256 (λ n. among f (term (suc (n / 16)) (suc (n % 16)) 0 ∷ [])) (λ n. cellTerms (wordsOf f) (256 + n))
-    (λ n h. sym (cell-single f (256 + n) (suc (n / 16)) (suc (n % 16)) (red-of-word (256 + n) _ (omega arith) (omega arith)) (blue-of-word (256 + n) _ (omega arith) (omega arith)) (mask n h) (omega arith) (omega arith)))
-  where
-    mask : (n : ℕ) → n < 256 → cellMask (256 + n) ≡ 1
-    mask n h = rw (le-ltb (256 + n) 256 (omega arith), lt-ltb (256 + n) 512 (omega arith))
+  blue-green-cell : n < 16 → CellIs (528 + n) 0 (suc n) 131070
+  unfolding cellRed cellBlue cellMask
+  blue-green-cell h =
+      let c = 528 + n in
+      rw (le-ltb c 256 (omega arith), le-ltb c 512 (omega arith), le-ltb c 528 (omega arith), lt-ltb c 544 (omega arith)) (refl, omega arith, refl)
 
--- From cell 512 on a word is in the first column or the first row.
-mask-of-edge : (n : ℕ) → 512 ≤ n → cellMask n ≡ 131070
-unfolding cellMask
-mask-of-edge n h = rw (le-ltb n 256 (omega arith), le-ltb n 512 h)
+  red-alone-cell : n < 16 → CellIs (544 + n) (suc n) 0 1
+  unfolding cellRed cellBlue cellMask
+  red-alone-cell h =
+      let c = 544 + n in
+      rw (le-ltb c 256 (omega arith), le-ltb c 512 (omega arith), le-ltb c 528 (omega arith), le-ltb c 544 (omega arith))
+      (rw (lt-ltb c 560 (omega arith), lt-ltb c 576 (omega arith)) (omega arith, refl, refl))
 
-cells-red-green : (f : Polynomial) → among f (pairsBeside Blue 16) ≡ concatBelow 16 (λ n. cellTerms (wordsOf f) (512 + n))
-unfolding pairsBeside join term cellRed cellBlue
-cells-red-green f =
-    among-over f 16 (λ i. overPositions 16 (λ k. term i 0 k ∷ []))
-    ∙ concatBelow-cong 16 (λ n. among f (overPositions 16 (λ k. term (suc n) 0 k ∷ []))) (λ n. cellTerms (wordsOf f) (512 + n))
-    (λ n h. sym (cell-positions f (512 + n) (suc n) 0 (red n h) (blue n h) (mask-of-edge (512 + n) (omega arith)) (omega arith) (omega arith)))
-  where
-    red : (n : ℕ) → n < 16 → cellRed (512 + n) ≡ suc n
-    red n h = rw (le-ltb (512 + n) 512 (omega arith), lt-ltb (512 + n) 528 (omega arith)) (omega arith)
+  blue-alone-cell : n < 16 → CellIs (560 + n) 0 (suc n) 1
+  unfolding cellRed cellBlue cellMask
+  blue-alone-cell h =
+      let c = 560 + n in
+      rw (le-ltb c 256 (omega arith), le-ltb c 512 (omega arith), le-ltb c 528 (omega arith), le-ltb c 544 (omega arith))
+      (rw (le-ltb c 560 (omega arith), lt-ltb c 576 (omega arith)) (refl, omega arith, refl))
 
-    blue : (n : ℕ) → n < 16 → cellBlue (512 + n) ≡ 0
-    blue n h = rw (le-ltb (512 + n) 512 (omega arith), lt-ltb (512 + n) 528 (omega arith))
+green-alone-cell : CellIs 576 0 0 131070
+unfolding cellRed cellBlue cellMask
+green-alone-cell = (refl, refl, refl)
 
-cells-blue-green : (f : Polynomial) → among f (pairsBeside Red 16) ≡ concatBelow 16 (λ n. cellTerms (wordsOf f) (528 + n))
-unfolding pairsBeside join term cellRed cellBlue
-cells-blue-green f =
-    among-over f 16 (λ j. overPositions 16 (λ k. term 0 j k ∷ []))
-    ∙ concatBelow-cong 16 (λ n. among f (overPositions 16 (λ k. term 0 (suc n) k ∷ []))) (λ n. cellTerms (wordsOf f) (528 + n))
-    (λ n h. sym (cell-positions f (528 + n) 0 (suc n) (red n h) (blue n h) (mask-of-edge (528 + n) (omega arith)) (omega arith) (omega arith)))
-  where
-    red : (n : ℕ) → n < 16 → cellRed (528 + n) ≡ 0
-    red n h = rw (le-ltb (528 + n) 512 (omega arith), le-ltb (528 + n) 528 (omega arith))
+-- ---- the cells of a kind
 
-    blue : (n : ℕ) → n < 16 → cellBlue (528 + n) ≡ suc n
-    blue n h = rw (le-ltb (528 + n) 512 (omega arith), le-ltb (528 + n) 528 (omega arith)) (omega arith)
+-- The first of them, and how many there are.
+abbrev firstCell : Kind → ℕ
+firstCell triple = 0
+firstCell (pairBeside Green) = 256
+firstCell (pairBeside Blue) = 512
+firstCell (pairBeside Red) = 528
+firstCell (single Red) = 544
+firstCell (single Blue) = 560
+firstCell (single Green) = 576
 
-concatBelow-parts : (c : ℕ → List Term) → concatBelow 544 c
-    ≡ concatBelow 256 c ++ (concatBelow 256 (λ n. c (256 + n)) ++ (concatBelow 16 (λ n. c (512 + n)) ++ concatBelow 16 (λ n. c (528 + n))))
-concatBelow-parts c =
-    concatBelow-add 256 288 c
-    ∙ ap (λ l. concatBelow 256 c ++ l) (concatBelow-add 256 32 (λ n. c (256 + n))
-    ∙ ap (λ l. concatBelow 256 (λ n. c (256 + n)) ++ l) (concatBelow-add 16 16 (λ n. c (256 + (256 + n)))
-    ∙ ap₂ _++_ (concatBelow-cong 16 (λ n. c (256 + (256 + n))) (λ n. c (512 + n)) (λ n h. ap c (omega arith)))
-    (concatBelow-cong 16 (λ n. c (256 + (256 + (16 + n)))) (λ n. c (528 + n)) (λ n h. ap c (omega arith)))))
+abbrev cellsOf : Kind → ℕ
+cellsOf triple = 256
+cellsOf (pairBeside Green) = 256
+cellsOf (pairBeside Blue) = 16
+cellsOf (pairBeside Red) = 16
+cellsOf (single Red) = 16
+cellsOf (single Blue) = 16
+cellsOf (single Green) = 1
 
--- The cells of a polynomial's words, one after the other, are its listing.
-pub listing-cells : (f : Polynomial) → listing 16 f ≡ concatBelow 544 (cellTerms (wordsOf f))
-unfolding listing everyTerm
-listing-cells f =
-    among-append f (triples 16) (pairsBeside Green 16 ++ (pairsBeside Blue 16 ++ pairsBeside Red 16))
-    ∙ ap₂ _++_ (cells-ccz f)
-    (among-append f (pairsBeside Green 16) (pairsBeside Blue 16 ++ pairsBeside Red 16)
-    ∙ ap₂ _++_ (cells-red-blue f) (among-append f (pairsBeside Blue 16) (pairsBeside Red 16) ∙ ap₂ _++_ (cells-red-green f) (cells-blue-green f)))
-    ∙ sym (concatBelow-parts (cellTerms (wordsOf f)))
+module _ (f : Polynomial) where
+  -- Cells from a on, one for each position, and one for each two positions.
+  row : (a : ℕ) (g : ℕ → List Term) → ((n : ℕ) → n < 16 → cellTerms (wordsOf f) (a + n) ≡ among f (g (suc n)))
+      → among f (overPositions 16 g) ≡ concatBelow 16 (λ n. cellTerms (wordsOf f) (a + n))
+  row a g e = among-over f 16 g ∙ concatBelow-cong 16 (λ n. among f (g (suc n))) (λ n. cellTerms (wordsOf f) (a + n)) (λ n h. sym (e n h))
+
+  square : (a : ℕ) (g : ℕ → ℕ → List Term) → ((n : ℕ) → n < 256 → cellTerms (wordsOf f) (a + n) ≡ among f (g (suc (n / 16)) (suc (n % 16))))
+      → among f (overPositions 16 (λ i. overPositions 16 (g i))) ≡ concatBelow 256 (λ n. cellTerms (wordsOf f) (a + n))
+  square a g e =
+      among-two f g
+      ∙ concatBelow-cong 256 (λ n. among f (g (suc (n / 16)) (suc (n % 16)))) (λ n. cellTerms (wordsOf f) (a + n)) (λ n h. sym (e n h))
+
+  cells-of-kind : (k : Kind) → among f (partOf 16 k) ≡ concatBelow (cellsOf k) (λ n. cellTerms (wordsOf f) (firstCell k + n))
+  unfolding partOf triples pairsBeside singles join term concatBelow
+  cells-of-kind triple = square 0 (λ i j. overPositions 16 (λ k. term i j k ∷ [])) (λ n h. cell-positions f (0 + n) (suc (n / 16)) (suc (n % 16)) (ccz-cell n h))
+  cells-of-kind (pairBeside Green) = square 256 (λ i j. term i j 0 ∷ []) (λ n h. cell-single f (256 + n) (suc (n / 16)) (suc (n % 16)) (red-blue-cell n h))
+  cells-of-kind (pairBeside Blue) = row 512 (λ i. overPositions 16 (λ k. term i 0 k ∷ [])) (λ n h. cell-positions f (512 + n) (suc n) 0 (red-green-cell n h))
+  cells-of-kind (pairBeside Red) = row 528 (λ j. overPositions 16 (λ k. term 0 j k ∷ [])) (λ n h. cell-positions f (528 + n) 0 (suc n) (blue-green-cell n h))
+  cells-of-kind (single Red) = row 544 (λ i. term i 0 0 ∷ []) (λ n h. cell-single f (544 + n) (suc n) 0 (red-alone-cell n h))
+  cells-of-kind (single Blue) = row 560 (λ j. term 0 j 0 ∷ []) (λ n h. cell-single f (560 + n) 0 (suc n) (blue-alone-cell n h))
+  cells-of-kind (single Green) = sym (cell-positions f 576 0 0 green-alone-cell)
+
+  -- The cells of each kind begin where those of the kinds before it end.
+  cells-of-kinds : map (λ k. among f (partOf 16 k)) kinds ≡ runs (cellTerms (wordsOf f)) 0 (map cellsOf kinds)
+  unfolding kinds
+  cells-of-kinds = ap (λ g. map g kinds) (fun-ext cells-of-kind)
+
+  -- The cells of a polynomial's words, one after the other, are its listing.
+  pub listing-cells : listing 16 f ≡ concatBelow 577 (cellTerms (wordsOf f))
+  unfolding kinds
+  listing-cells =
+      listing-kinds 16 f
+      ∙ ap flatten cells-of-kinds
+      ∙ sym (concatBelow-runs (cellTerms (wordsOf f)) 0 (map cellsOf kinds))
+      ∙ concatBelow-cong 577 (λ n. cellTerms (wordsOf f) (0 + n)) (cellTerms (wordsOf f)) (λ n h. ap (cellTerms (wordsOf f)) (zero-add n))
 
 -- So a place of the cells is a place of the listing.
-pub entry-listing : (f : Polynomial) (words : List ℕ) (n : ℕ) → words ≡ wordsOf f → entryOf (concatBelow 544 (cellTerms words)) n ≡ entryOf (listing 16 f) n
-entry-listing f words n e = ap (λ ws. entryOf (concatBelow 544 (cellTerms ws)) n) e ∙ ap (λ l. entryOf l n) (sym (listing-cells f))
+pub entry-listing : (f : Polynomial) (words : List ℕ) (n : ℕ) → words ≡ wordsOf f → entryOf (concatBelow 577 (cellTerms words)) n ≡ entryOf (listing 16 f) n
+entry-listing f words n e = ap (λ ws. entryOf (concatBelow 577 (cellTerms ws)) n) e ∙ ap (λ l. entryOf l n) (sym (listing-cells f))

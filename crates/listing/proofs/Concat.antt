@@ -1,9 +1,9 @@
 -- Lists one after the other, and the numbers for which a test is true.
 use mathlib.Core.Path.{_≡_, refl, sym, _∙_, ap, ap₂}
 use mathlib.Core.Bool.{Bool, true, false, cond}
-use mathlib.Core.List.{List, [], _∷_, _++_, append-assoc, append-nil}
+use mathlib.Core.List.{List, [], _∷_, _++_, append-assoc, append-nil, flatten}
 use Prim.Native.Nat.{ℕ, zero, suc, _+_, _*_, _-_, _/_, _%_, _^_, _≤_, _<_}
-use native.Mathlib.Nat.{add-zero, add-suc, add-comm, div-lt-iff-lt-mul, mod-lt}
+use native.Mathlib.Nat.{add-zero, add-suc, add-comm, add-assoc, div-lt-iff-lt-mul, mod-lt}
 use native.Mathlib.Numerals.{add-one}
 use native.Mathlib.Omega.{arith}
 use lib.Arith.{lt-one}
@@ -56,6 +56,24 @@ pub concatBelow-inside : {A : Type 0} (a b : ℕ) (f : ℕ → List A) → a < b
 unfolding concatBelow
 concatBelow-inside a b f h =
     concatBelow-front (suc a) b f h ∙ append-assoc (concatBelow a f) (f a) (concatBelow (b - suc a) (λ n. f (suc a + n)))
+
+-- The lists from place a on joined in runs: the numbers tell how many lists each run has.
+abbrev pub runs : {A : Type 0} → (ℕ → List A) → ℕ → List ℕ → List (List A)
+runs f a [] = []
+runs f a (n ∷ ns) = concatBelow n (λ k. f (a + k)) ∷ runs f (a + n) ns
+
+abbrev pub total : List ℕ → ℕ
+total [] = 0
+total (n ∷ ns) = n + total ns
+
+pub concatBelow-runs : {A : Type 0} (f : ℕ → List A) (a : ℕ) (ns : List ℕ) → concatBelow (total ns) (λ k. f (a + k)) ≡ flatten (runs f a ns)
+unfolding concatBelow flatten
+concatBelow-runs f a [] = refl
+concatBelow-runs f a (n ∷ ns) =
+    concatBelow-add n (total ns) (λ k. f (a + k))
+    ∙ ap (λ l. concatBelow n (λ k. f (a + k)) ++ l)
+    (concatBelow-cong (total ns) (λ k. f (a + (n + k))) (λ k. f (a + n + k)) (λ k h. ap f (sym (add-assoc a n k)))
+    ∙ concatBelow-runs f (a + n) ns)
 
 -- ---- the numbers for which a test is true
 

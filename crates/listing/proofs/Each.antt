@@ -1,7 +1,7 @@
 -- What is so for each term of a list, and for the gates that they are listed as.
 use mathlib.Core.Path.{_≡_}
 use mathlib.Core.Bool.{Bool, true, false, cond}
-use mathlib.Core.List.{List, [], _∷_, _++_}
+use mathlib.Core.List.{List, [], _∷_, _++_, map, flatten}
 use Prim.Native.Nat.{ℕ, zero, suc, _≤_}
 use native.Mathlib.Omega.{arith}
 use Rattle.gf2.proofs.Impossible.{never}
@@ -24,6 +24,12 @@ each-map P Q f (h ∷ l) e = (f h (e .0), each-map P Q f l (e .1))
 pub each-append : (P : Term → Type 0) (l k : List Term) → Each P l → Each P k → Each P (l ++ k)
 each-append P [] k a b = b
 each-append P (h ∷ l) k a b = (a .0, each-append P l k (a .1) b)
+
+-- What is so for each term of every list is so for each term of the lists one after the other.
+pub each-flatten : {K : Type 0} (P : Term → Type 0) (g : K → List Term) → ((k : K) → Each P (g k)) → (ks : List K) → Each P (flatten (map g ks))
+unfolding flatten
+each-flatten P g e [] = tt
+each-flatten P g e (k ∷ ks) = each-append P (g k) (flatten (map g ks)) (e k) (each-flatten P g e ks)
 
 pub each-among : (P : Term → Type 0) (f : Polynomial) (l : List Term) → Each P l → Each P (among f l)
 unfolding among

@@ -1,7 +1,7 @@
 -- Listings put together from parts: the terms of a polynomial in each, and what stands at a place.
 use mathlib.Core.Path.{_≡_, refl, _∙_, ap}
 use mathlib.Core.Bool.{Bool, true, false, cond}
-use mathlib.Core.List.{List, [], _∷_, _++_}
+use mathlib.Core.List.{List, [], _∷_, _++_, map, flatten}
 use Prim.Native.Nat.{ℕ, zero, suc, _+_, _≤_, _<_}
 use native.Mathlib.Nat.{zero-add, suc-add}
 use native.Mathlib.Omega.{arith}
@@ -19,6 +19,11 @@ among-append f (x ∷ l) k = go (among-append f l k) (f x)
         → cond b (x ∷ among f (l ++ k)) (among f (l ++ k)) ≡ cond b (x ∷ among f l) (among f l) ++ among f k
     go e true = ap (λ r. x ∷ r) e
     go e false = e
+
+pub among-flatten : (f : Polynomial) (ps : List (List Term)) → among f (flatten ps) ≡ flatten (map (among f) ps)
+unfolding among flatten
+among-flatten f [] = refl
+among-flatten f (p ∷ ps) = among-append f p (flatten ps) ∙ ap (λ l. among f p ++ l) (among-flatten f ps)
 
 pub entryOf-front : (l k : List Term) (n : ℕ) → n < length l → entryOf (l ++ k) n ≡ entryOf l n
 unfolding entryOf

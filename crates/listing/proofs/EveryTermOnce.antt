@@ -1,7 +1,7 @@
 -- Every term once and nothing else (Manual 6.2): a listing has a term of the polynomial once and any other not at all.
-use mathlib.Core.Path.{_≡_, refl, sym, _∙_, ap, ap₂}
+use mathlib.Core.Path.{_≡_, refl, sym, _∙_, ap, ap₂, fun-ext}
 use mathlib.Core.Bool.{Bool, true, false, not, cond, _&&_, false≢true}
-use mathlib.Core.List.{List, [], _∷_, _++_}
+use mathlib.Core.List.{List, [], _∷_, _++_, map, flatten}
 use Prim.Native.Nat.{ℕ, zero, suc, _+_, _≤_}
 use native.Mathlib.Nat.{add-assoc, add-zero, zero-add}
 use native.Mathlib.Omega.{arith}
@@ -14,10 +14,12 @@ use Rattle.gf2.proofs.Digits.{odd-add}
 use Rattle.circuit.specs.declared.Colour.{Colour}
 use Rattle.circuit.specs.declared.Colour.the-variants.{Red, Blue, Green}
 use Rattle.circuit.specs.declared.Gate.{Gate}
-use Rattle.circuit.specs.Colours.{the, first, second, join}
+use Rattle.circuit.specs.Colours.{Three, the, first, second, join}
 use Rattle.circuit.specs.Sum.{isPosition, areGates}
 use Rattle.circuit.specs.Polynomial.{Term, Polynomial, term, sameTerm, empty, toggled, appliedAll, polynomial}
-use Rattle.listing.specs.Listing.{overPositions, triples, pairsBeside, everyTerm, among, listing, occurrences, gatesOf}
+use Rattle.listing.specs.Listing.{overPositions, triples, pairsBeside, singles, parts, everyTerm, among, listing, occurrences, gatesOf}
+use Rattle.listing.proofs.Concat.{total}
+use Rattle.listing.proofs.Parts.{Kind, triple, pairBeside, single, partOf, kinds}
 use Rattle.listing.proofs.TermGates.{applied-gateOfTerm}
 use Rattle.circuit.proofs.Gates.{is-position}
 use Rattle.circuit.proofs.PolynomialTerms.{IsTerm, same-term, position-true, position-false, polynomial-terms}
@@ -29,6 +31,12 @@ unfolding occurrences
 occurrences-append h [] k = sym (zero-add (occurrences h k))
 occurrences-append h (x ∷ l) k =
     ap (λ (n : ℕ). cond (sameTerm h x) 1 0 + n) (occurrences-append h l k) ∙ sym (add-assoc (cond (sameTerm h x) 1 0) (occurrences h l) (occurrences h k))
+
+-- How often it stands in lists one after the other: the sum over the lists.
+occurrences-flatten : (h : Term) (ps : List (List Term)) → occurrences h (flatten ps) ≡ total (map (occurrences h) ps)
+unfolding occurrences flatten
+occurrences-flatten h [] = refl
+occurrences-flatten h (p ∷ ps) = occurrences-append h p (flatten ps) ∙ ap (λ (n : ℕ). occurrences h p + n) (occurrences-flatten h ps)
 
 pub occurrences-among : (f : Polynomial) (h : Term) (l : List Term) → occurrences h (among f l) ≡ cond (f h) (occurrences h l) 0
 unfolding occurrences among
@@ -122,13 +130,19 @@ occurrences-triples m h =
     g : ℕ
     g = h .green
 
+same-join : (C : Colour) (h : Term) (k i j : ℕ) → sameTerm h (join C k i j) ≡ eqb (the C h) k && (eqb (first C h) i && eqb (second C h) j)
+unfolding sameTerm the first second join
+same-join Red h k i j = refl
+same-join Blue h k i j = and-left-comm (eqb (h .red) i) (eqb (h .blue) k) (eqb (h .green) j)
+same-join Green h k i j = rotate (eqb (h .red) i) (eqb (h .blue) j) (eqb (h .green) k)
+
 occurrences-pairs : (C : Colour) (m : ℕ) (h : Term)
     → occurrences h (pairsBeside C m) ≡ once (isPosition m (first C h) && (isPosition m (second C h) && eqb (the C h) 0))
-unfolding pairsBeside sameTerm the first second join
+unfolding pairsBeside
 occurrences-pairs C m h =
     occurrences-over h u (isPosition m v && eqb (the C h) 0) (λ i. overPositions m (λ j. join C 0 i j ∷ []))
     (λ i. occurrences-over h v (eqb (the C h) 0 && eqb u i) (λ j. join C 0 i j ∷ [])
-    (λ j. occurrences-one h (join C 0 i j) ∙ ap once (same-join C i j ∙ rotate (eqb (the C h) 0) (eqb u i) (eqb v j))) m
+    (λ j. occurrences-one h (join C 0 i j) ∙ ap once (same-join C h 0 i j ∙ rotate (eqb (the C h) 0) (eqb u i) (eqb v j))) m
     ∙ ap once (rotate (isPosition m v) (eqb (the C h) 0) (eqb u i))) m
   where
     u : ℕ
@@ -137,39 +151,61 @@ occurrences-pairs C m h =
     v : ℕ
     v = second C h
 
-    same-join : (C : Colour) (i j : ℕ) → sameTerm h (join C 0 i j) ≡ eqb (the C h) 0 && (eqb (first C h) i && eqb (second C h) j)
-    same-join Red i j = refl
-    same-join Blue i j = and-left-comm (eqb (h .red) i) (eqb (h .blue) 0) (eqb (h .green) j)
-    same-join Green i j = rotate (eqb (h .red) i) (eqb (h .blue) j) (eqb (h .green) 0)
+occurrences-singles : (C : Colour) (m : ℕ) (h : Term) → occurrences h (singles C m) ≡ once (isPosition m (the C h) && (eqb (first C h) 0 && eqb (second C h) 0))
+unfolding singles
+occurrences-singles C m h =
+    occurrences-over h (the C h) (eqb (first C h) 0 && eqb (second C h) 0) (λ i. join C i 0 0 ∷ [])
+    (λ i. occurrences-one h (join C i 0 0) ∙ ap once (same-join C h i 0 0)) m
 
--- Each term that a circuit can have stands there once.
+-- Has a term the positions of a kind? z tells which of its indices are 0.
+abbrev isOf : Kind → Three Bool → Bool
+isOf triple z = not (z .red) && (not (z .blue) && not (z .green))
+isOf (pairBeside C) z = not (first C z) && (not (second C z) && the C z)
+isOf (single C) z = not (the C z) && (first C z && second C z)
+
+-- Each term that a circuit can have stands there once: it is of one kind.
 pub occurrences-everyTerm : (m : ℕ) (h : Term) → IsTerm m h → occurrences h (everyTerm m) ≡ 1
-unfolding everyTerm the first second
+unfolding everyTerm parts partOf kinds the first second
 occurrences-everyTerm m h i =
-    occurrences-append h (triples m) (pairsBeside Green m ++ (pairsBeside Blue m ++ pairsBeside Red m))
-    ∙ ap₂ _+_ (occurrences-triples m h)
-    (occurrences-append h (pairsBeside Green m) (pairsBeside Blue m ++ pairsBeside Red m)
-    ∙ ap₂ _+_ (occurrences-pairs Green m h)
-    (occurrences-append h (pairsBeside Blue m) (pairsBeside Red m) ∙ ap₂ _+_ (occurrences-pairs Blue m h) (occurrences-pairs Red m h)))
-    ∙ rw (place (h .red) (i .red-le), place (h .blue) (i .blue-le), place (h .green) (i .green-le))
-    (go (eqb (h .red) 0) (eqb (h .blue) 0) (eqb (h .green) 0) refl refl refl)
+    occurrences-flatten h (parts m)
+    ∙ ap (λ g. total (map g kinds)) (fun-ext part)
+    ∙ one-kind (eqb (h .red) 0) (eqb (h .blue) 0) (eqb (h .green) 0) refl refl refl
   where
     place : (p : ℕ) → p ≤ m → isPosition m p ≡ not (eqb p 0)
     place zero l = position-false m 0 (λ a b. omega arith)
     place (suc p) l = position-true m (suc p) (omega arith) l ∙ sym (ap not (eqb·suc-zero p))
 
-    both : (p q : ℕ) → eqb p 0 ≡ true → eqb q 0 ≡ true → 1 ≤ p + q → ⊥
-    both p q e d l = omega (arith, eqb-true p 0 e, eqb-true q 0 d)
+    red : isPosition m (h .red) ≡ not (eqb (h .red) 0)
+    red = place (h .red) (i .red-le)
 
-    go : (x y z : Bool) → eqb (h .red) 0 ≡ x → eqb (h .blue) 0 ≡ y → eqb (h .green) 0 ≡ z
-        → once (not x && (not y && not z)) + (once (not x && (not y && z)) + (once (not x && (not z && y)) + once (not y && (not z && x)))) ≡ 1
-    go true true z p q r = absurd (both (h .red) (h .blue) p q (i .red-blue))
-    go true false true p q r = absurd (both (h .red) (h .green) p r (i .red-green))
-    go true false false p q r = refl
-    go false true true p q r = absurd (both (h .blue) (h .green) q r (i .blue-green))
-    go false true false p q r = refl
-    go false false true p q r = refl
-    go false false false p q r = refl
+    blue : isPosition m (h .blue) ≡ not (eqb (h .blue) 0)
+    blue = place (h .blue) (i .blue-le)
+
+    green : isPosition m (h .green) ≡ not (eqb (h .green) 0)
+    green = place (h .green) (i .green-le)
+
+    zeros : Three Bool
+    zeros = record { red = eqb (h .red) 0; blue = eqb (h .blue) 0; green = eqb (h .green) 0 }
+
+    part : (k : Kind) → occurrences h (partOf m k) ≡ once (isOf k zeros)
+    part triple = occurrences-triples m h ∙ rw (red, blue, green)
+    part (pairBeside Red) = occurrences-pairs Red m h ∙ rw (blue, green)
+    part (pairBeside Blue) = occurrences-pairs Blue m h ∙ rw (red, green)
+    part (pairBeside Green) = occurrences-pairs Green m h ∙ rw (red, blue)
+    part (single Red) = occurrences-singles Red m h ∙ rw red
+    part (single Blue) = occurrences-singles Blue m h ∙ rw blue
+    part (single Green) = occurrences-singles Green m h ∙ rw green
+
+    one-kind : (x y z : Bool) → eqb (h .red) 0 ≡ x → eqb (h .blue) 0 ≡ y → eqb (h .green) 0 ≡ z
+        → total (map (λ k. once (isOf k (record { red = x; blue = y; green = z }))) kinds) ≡ 1
+    one-kind true true true p q r = absurd (omega (arith, eqb-true (h .red) 0 p, eqb-true (h .blue) 0 q, eqb-true (h .green) 0 r, i .some))
+    one-kind true true false p q r = refl
+    one-kind true false true p q r = refl
+    one-kind true false false p q r = refl
+    one-kind false true true p q r = refl
+    one-kind false true false p q r = refl
+    one-kind false false true p q r = refl
+    one-kind false false false p q r = refl
 
 -- The listing holds every term of the polynomial once and nothing else.
 pub listing-once : (m : ℕ) (gs : List Gate) → areGates m gs ≡ true → (h : Term) → occurrences h (listing m (polynomial gs)) ≡ cond (polynomial gs h) 1 0

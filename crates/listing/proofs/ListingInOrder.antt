@@ -2,9 +2,10 @@
 -- one such part from the next.
 use mathlib.Core.Path.{_≡_, refl, sym, _∙_}
 use mathlib.Core.Bool.{Bool, true, false, cond, _&&_}
-use mathlib.Core.List.{List, [], _∷_, _++_, append-assoc, append-nil}
+use mathlib.Core.List.{List, [], _∷_, _++_, append-assoc, append-nil, map, flatten}
 use Prim.Native.Nat.{ℕ, zero, suc, _≤_, _<_}
 use native.Mathlib.Omega.{arith}
+use lib.Dec.{ltb}
 use Rattle.gf2.proofs.Bits.{and-both}
 use Rattle.gf2.proofs.Impossible.{never}
 use Rattle.circuit.specs.declared.Colour.{Colour}
@@ -13,9 +14,11 @@ use Rattle.circuit.specs.declared.Gate.{Gate}
 use Rattle.listing.specs.declared.Entry.the-variants.{Listed}
 use Rattle.circuit.specs.Colours.{numberOf, first, second, colours, join}
 use Rattle.circuit.specs.Polynomial.{Term, Polynomial, term}
-use Rattle.listing.specs.Listing.{overPositions, triples, pairsBeside, everyTerm, among, listing, gateOfTerm, gatesOf, entryOf}
+use Rattle.circuit.specs.Layers.{spot}
+use Rattle.listing.specs.Listing.{overPositions, triples, pairsBeside, singles, parts, everyTerm, among, listing, gateOfTwo, gateOfTerm, gatesOf, entryOf}
 use Rattle.listing.specs.Order.{placedBy, lower, comesBefore, isWritten, beforeNext, inOrder}
 use Rattle.listing.proofs.Each.{line, Each, each-map, each-append, each-among}
+use Rattle.listing.proofs.Parts.{Kind, triple, pairBeside, single, partOf, kinds}
 use Rattle.listing.proofs.Comparison.{lower-trans, lower-less, lower-behind, lower-front}
 
 -- ---- each term before all that follow it
@@ -109,7 +112,13 @@ part-one p h u = record { rising = (tt, tt); under = (u, tt) }
 
 -- ---- the parts of a listing
 
-part-triples : (m : ℕ) → Part (1 ∷ []) (triples m)
+-- What the terms of a kind are placed by first.
+abbrev placedFirst : Kind → List ℕ
+placedFirst triple = 1 ∷ []
+placedFirst (pairBeside C) = 2 ∷ numberOf (first C colours) ∷ numberOf (second C colours) ∷ []
+placedFirst (single C) = 3 ∷ numberOf C ∷ []
+
+part-triples : (m : ℕ) → Part (placedFirst triple) (triples m)
 unfolding triples gateOfTerm placedBy term
 part-triples m =
     part-over (1 ∷ []) (λ i. overPositions m (λ j. overPositions m (λ k. term i j k ∷ [])))
@@ -117,26 +126,56 @@ part-triples m =
     (λ j. part-over (1 ∷ suc i ∷ suc j ∷ []) (λ k. term (suc i) (suc j) k ∷ [])
     (λ k. part-one _ (term (suc i) (suc j) (suc k)) (record { rest = []; is = refl })) m) m) m
 
--- The numbers of the two colours beside C.
-abbrev kindBeside : Colour → List ℕ
-kindBeside C = numberOf (first C colours) ∷ numberOf (second C colours) ∷ []
-
-part-pairs : (C : Colour) (m : ℕ) → Part (2 ∷ kindBeside C) (pairsBeside C m)
-unfolding pairsBeside gateOfTerm placedBy join first second colours
+part-pairs : (C : Colour) (m : ℕ) → Part (placedFirst (pairBeside C)) (pairsBeside C m)
+unfolding pairsBeside gateOfTerm gateOfTwo spot placedBy join first second colours
 part-pairs C m =
-    part-over (2 ∷ kindBeside C) (λ i. overPositions m (λ j. join C 0 i j ∷ []))
-    (λ i. part-over (2 ∷ (kindBeside C ++ (suc i ∷ []))) (λ j. join C 0 (suc i) j ∷ [])
+    part-over (placedFirst (pairBeside C)) (λ i. overPositions m (λ j. join C 0 i j ∷ []))
+    (λ i. part-over (placedFirst (pairBeside C) ++ (suc i ∷ [])) (λ j. join C 0 (suc i) j ∷ [])
     (λ j. part-one _ (join C 0 (suc i) (suc j)) (placed C i j)) m) m
   where
-    placed : (C : Colour) (i j : ℕ) → Under (2 ∷ (kindBeside C ++ (suc i ∷ suc j ∷ []))) (join C 0 (suc i) (suc j))
+    placed : (C : Colour) (i j : ℕ) → Under (placedFirst (pairBeside C) ++ (suc i ∷ suc j ∷ [])) (join C 0 (suc i) (suc j))
     placed Red i j = record { rest = []; is = refl }
     placed Blue i j = record { rest = []; is = refl }
     placed Green i j = record { rest = []; is = refl }
 
+part-singles : (C : Colour) (m : ℕ) → Part (placedFirst (single C)) (singles C m)
+unfolding singles gateOfTerm gateOfTwo spot placedBy join
+part-singles C m = part-over (placedFirst (single C)) (λ i. join C i 0 0 ∷ []) (λ i. part-one _ (join C (suc i) 0 0) (placed C i)) m
+  where
+    placed : (C : Colour) (i : ℕ) → Under (placedFirst (single C) ++ (suc i ∷ [])) (join C (suc i) 0 0)
+    placed Red i = record { rest = []; is = refl }
+    placed Blue i = record { rest = []; is = refl }
+    placed Green i = record { rest = []; is = refl }
+
+part-of : (m : ℕ) (k : Kind) → Part (placedFirst k) (partOf m k)
+unfolding partOf
+part-of m triple = part-triples m
+part-of m (pairBeside C) = part-pairs C m
+part-of m (single C) = part-singles C m
+
+-- ---- the parts one after the other
+
+-- Is each kind placed before the next?
+abbrev kindsInOrder : List Kind → Bool
+kindsInOrder [] = true
+kindsInOrder (k ∷ []) = true
+kindsInOrder (k ∷ j ∷ ks) = lower (placedFirst k) (placedFirst j) && kindsInOrder (j ∷ ks)
+
+parts-from : (m : ℕ) (k : Kind) (ks : List Kind) → kindsInOrder (k ∷ ks) ≡ true → Parts (placedFirst k) (flatten (map (partOf m) (k ∷ ks)))
+unfolding flatten
+parts-from m k [] e = rw (append-nil (partOf m k)) (one-part (part-of m k))
+parts-from m k (j ∷ ks) e =
+    let p = and-both (lower (placedFirst k) (placedFirst j)) (kindsInOrder (j ∷ ks)) e in
+    part-first (part-of m k) (p .0) (parts-from m j ks (p .1))
+
+rising-kinds : (m : ℕ) (ks : List Kind) → kindsInOrder ks ≡ true → Rising (flatten (map (partOf m) ks))
+unfolding flatten
+rising-kinds m [] e = tt
+rising-kinds m (k ∷ ks) e = parts-from m k ks e .rising
+
 rising-everyTerm : (m : ℕ) → Rising (everyTerm m)
-unfolding everyTerm lower first second colours
-rising-everyTerm m =
-    part-first (part-triples m) refl (part-first (part-pairs Green m) refl (part-first (part-pairs Blue m) refl (one-part (part-pairs Red m)))) .rising
+unfolding everyTerm parts partOf kinds lower first second colours
+rising-everyTerm m = rising-kinds m kinds refl
 
 pub listing-rising : (m : ℕ) (f : Polynomial) → Rising (listing m f)
 unfolding listing
@@ -145,11 +184,17 @@ listing-rising m f = rising-among f (everyTerm m) (rising-everyTerm m)
 -- ---- the law
 
 -- A term as it is listed has its colours in order, whatever the term.
+written-two : (C D : Colour) (i j : ℕ) → ltb (numberOf C) (numberOf D) ≡ true → isWritten (gateOfTwo C i D j) ≡ true
+unfolding isWritten gateOfTwo spot
+written-two C D zero j e = refl
+written-two C D (suc i) zero e = refl
+written-two C D (suc i) (suc j) e = e
+
 written-line : (i j k : ℕ) → isWritten (gateOfTerm i j k) ≡ true
 unfolding isWritten gateOfTerm
-written-line zero j k = refl
-written-line (suc i) zero k = refl
-written-line (suc i) (suc j) zero = refl
+written-line zero j k = written-two Blue Green j k refl
+written-line (suc i) zero k = written-two Red Green (suc i) k refl
+written-line (suc i) (suc j) zero = written-two Red Blue (suc i) (suc j) refl
 written-line (suc i) (suc j) (suc k) = refl
 
 in-order-rising : (l : List Term) → Rising l → inOrder (gatesOf l) ≡ true

@@ -1,7 +1,7 @@
 -- A circuit's listing over more positions than the circuit has is the same: there are no terms there.
-use mathlib.Core.Path.{_≡_, refl, sym, _∙_, ap, ap₂}
+use mathlib.Core.Path.{_≡_, refl, sym, _∙_, ap, ap₂, fun-ext}
 use mathlib.Core.Bool.{Bool, true, false, cond}
-use mathlib.Core.List.{List, [], _∷_, _++_, append-nil}
+use mathlib.Core.List.{List, [], _∷_, _++_, append-nil, map, flatten}
 use Prim.Native.Nat.{ℕ, zero, suc, _≤_, _<_}
 use native.Mathlib.Omega.{arith}
 use lib.Dec.{leb}
@@ -12,8 +12,9 @@ use Rattle.circuit.specs.declared.Gate.{Gate}
 use Rattle.circuit.specs.Colours.{join}
 use Rattle.circuit.specs.Sum.{areGates}
 use Rattle.circuit.specs.Polynomial.{Term, Polynomial, term, polynomial}
-use Rattle.listing.specs.Listing.{overPositions, triples, pairsBeside, everyTerm, among, listing}
+use Rattle.listing.specs.Listing.{overPositions, triples, pairsBeside, singles, among, listing}
 use Rattle.listing.proofs.Entries.{among-append}
+use Rattle.listing.proofs.Parts.{Kind, triple, pairBeside, single, partOf, kinds, listing-kinds}
 use Rattle.circuit.proofs.PolynomialTerms.{IsTerm, HasTerms, polynomial-terms}
 
 -- What a polynomial lacks is not among its terms.
@@ -81,17 +82,23 @@ module _ (m n : ℕ) (f : Polynomial) (t : HasTerms m f) (l : m ≤ n) where
       past-second Blue i j a s = omega arith
       past-second Green i j a s = omega arith
 
+  cut-singles : (C : Colour) → among f (singles C n) ≡ among f (singles C m)
+  unfolding singles join
+  cut-singles C = over-cut f m n (λ i. join C i 0 0 ∷ []) l (λ i a. absent m f t (join C i 0 0) (past C i a))
+    where
+      past : (C : Colour) (i : ℕ) → m < i → IsTerm m (join C i 0 0) → ⊥
+      past Red i a s = omega arith
+      past Blue i a s = omega arith
+      past Green i a s = omega arith
+
+  cut : (k : Kind) → among f (partOf n k) ≡ among f (partOf m k)
+  unfolding partOf
+  cut triple = cut-triples
+  cut (pairBeside C) = cut-pairs C
+  cut (single C) = cut-singles C
+
   listing-cut : listing n f ≡ listing m f
-  unfolding listing everyTerm
-  listing-cut =
-      among-append f (triples n) (pairsBeside Green n ++ (pairsBeside Blue n ++ pairsBeside Red n))
-      ∙ ap₂ _++_ cut-triples
-      (among-append f (pairsBeside Green n) (pairsBeside Blue n ++ pairsBeside Red n)
-      ∙ ap₂ _++_ (cut-pairs Green)
-      (among-append f (pairsBeside Blue n) (pairsBeside Red n) ∙ ap₂ _++_ (cut-pairs Blue) (cut-pairs Red)
-      ∙ sym (among-append f (pairsBeside Blue m) (pairsBeside Red m)))
-      ∙ sym (among-append f (pairsBeside Green m) (pairsBeside Blue m ++ pairsBeside Red m)))
-      ∙ sym (among-append f (triples m) (pairsBeside Green m ++ (pairsBeside Blue m ++ pairsBeside Red m)))
+  listing-cut = listing-kinds n f ∙ ap (λ g. flatten (map g kinds)) (fun-ext cut) ∙ sym (listing-kinds m f)
 
 -- The code lists over 16 positions, whatever m is.
 pub listing-16 : (m : ℕ) (gs : List Gate) → areGates m gs ≡ true → m ≤ 16 → listing 16 (polynomial gs) ≡ listing m (polynomial gs)

@@ -11,17 +11,18 @@ use Rattle.gf2.proofs.Bits.{and-both}
 use Rattle.circuit.specs.declared.Colour.{Colour}
 use Rattle.circuit.specs.declared.Colour.the-variants.{Red, Blue, Green}
 use Rattle.circuit.specs.declared.Gate.{Gate}
-use Rattle.circuit.specs.declared.Gate.the-variants.{Ccz, Cz, Cnot}
+use Rattle.circuit.specs.declared.Gate.the-variants.{Ccz, Cz, Cnot, Z}
 use Rattle.circuit.specs.Colours.{numberOf, put, join, first, second}
 use Rattle.circuit.specs.Sum.{isGate, areGates}
-use Rattle.circuit.specs.Polynomial.{Term, term, pair, sameTerm, polynomial}
+use Rattle.circuit.specs.Polynomial.{Term, term, alone, pair, sameTerm, polynomial}
+use Rattle.circuit.specs.Layers.{spot}
 use Rattle.circuit.proofs.Gates.{Valid, valid-of}
 use Rattle.circuit.proofs.PolynomialTerms.{same-term}
-use Rattle.listing.specs.Listing.{listing, occurrences, gateOfTerm, gatesOf}
+use Rattle.listing.specs.Listing.{listing, occurrences, gateOfTwo, gateOfTerm, gatesOf}
 use Rattle.listing.specs.Order.{placedBy, comesBefore, isWritten, beforeNext, inOrder}
 use Rattle.listing.proofs.Each.{line, Each, each-map}
 use Rattle.listing.proofs.Comparison.{lower-trans, lower-self}
-use Rattle.listing.proofs.TermGates.{gate-without-red, gate-without-blue, gate-without-green, gate-of-three}
+use Rattle.listing.proofs.TermGates.{gate-of-three}
 use Rattle.listing.proofs.EveryTermOnce.{listing-once, polynomial-gatesOf}
 use Rattle.listing.proofs.ListingInOrder.{Rising, listing-rising, in-order-first}
 
@@ -105,31 +106,40 @@ lineTerm : Gate → Term
 lineTerm (Ccz i j k) = term i j k
 lineTerm (Cz p q) = pair p q
 lineTerm (Cnot C c t) = term 0 0 0
+lineTerm (Z p) = alone p
 
 -- A line of a listing is what its term is listed as.
 line-back : (m : ℕ) (g : Gate) → isGate m g ≡ true → isWritten g ≡ true → line (lineTerm g) ≡ g
-unfolding lineTerm isWritten term pair put join first second gateOfTerm
+unfolding lineTerm isWritten term alone pair spot put join first second gateOfTerm gateOfTwo
 line-back m g v w = go g (valid-of m g v) w
   where
     three : (i j k : ℕ) → 1 ≤ i → 1 ≤ j → 1 ≤ k → gateOfTerm i j k ≡ Ccz i j k
     three i j k a b c = gate-of-three i j k (λ e. omega arith) (λ e. omega arith) (λ e. omega arith)
 
-    two : (C D : Colour) (i j : ℕ) → 1 ≤ i → 1 ≤ j → ltb (numberOf C) (numberOf D) ≡ true
-        → line (pair (record { colour = C; position = i }) (record { colour = D; position = j })) ≡ Cz (record { colour = C; position = i }) (record { colour = D; position = j })
-    two Red Red i j a b w = absurd (false≢true w)
-    two Red Blue i j a b w = gate-without-green i j 0 (λ e. omega arith) (λ e. omega arith) refl
-    two Red Green i j a b w = gate-without-blue i 0 j (λ e. omega arith) refl
-    two Blue Red i j a b w = absurd (false≢true w)
-    two Blue Blue i j a b w = absurd (false≢true w)
-    two Blue Green i j a b w = gate-without-red 0 i j refl
-    two Green Red i j a b w = absurd (false≢true w)
-    two Green Blue i j a b w = absurd (false≢true w)
-    two Green Green i j a b w = absurd (false≢true w)
+    two : (C D : Colour) (i j : ℕ) → 1 ≤ i → 1 ≤ j → ltb (numberOf C) (numberOf D) ≡ true → line (pair (spot C i) (spot D j)) ≡ Cz (spot C i) (spot D j)
+    two C D zero j a b w = absurd (omega arith)
+    two C D (suc i) zero a b w = absurd (omega arith)
+    two Red Red (suc i) (suc j) a b w = absurd (false≢true w)
+    two Red Blue (suc i) (suc j) a b w = refl
+    two Red Green (suc i) (suc j) a b w = refl
+    two Blue Red (suc i) (suc j) a b w = absurd (false≢true w)
+    two Blue Blue (suc i) (suc j) a b w = absurd (false≢true w)
+    two Blue Green (suc i) (suc j) a b w = refl
+    two Green Red (suc i) (suc j) a b w = absurd (false≢true w)
+    two Green Blue (suc i) (suc j) a b w = absurd (false≢true w)
+    two Green Green (suc i) (suc j) a b w = absurd (false≢true w)
+
+    one : (C : Colour) (i : ℕ) → 1 ≤ i → line (alone (spot C i)) ≡ Z (spot C i)
+    one C zero a = absurd (omega arith)
+    one Red (suc i) a = refl
+    one Blue (suc i) a = refl
+    one Green (suc i) a = refl
 
     go : (g : Gate) → Valid m g → isWritten g ≡ true → line (lineTerm g) ≡ g
     go (Ccz i j k) v w = three i j k (v .0 .0) (v .1 .0) (v .2 .0)
     go (Cz p q) v w = two (p .colour) (q .colour) (p .position) (q .position) (v .0 .0) (v .1 .0) w
     go (Cnot C c t) v w = absurd (false≢true w)
+    go (Z p) v w = one (p .colour) (p .position) (v .0)
 
 lines-back : (m : ℕ) (ls : List Gate) → areGates m ls ≡ true → inOrder ls ≡ true → gatesOf (map lineTerm ls) ≡ ls
 unfolding areGates inOrder gatesOf

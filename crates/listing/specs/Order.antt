@@ -4,15 +4,17 @@ use mathlib.Core.List.{List, [], _∷_}
 use Prim.Native.Nat.{ℕ}
 use lib.Dec.{eqb, ltb}
 use Rattle.circuit.specs.declared.Gate.{Gate}
-use Rattle.circuit.specs.declared.Gate.the-variants.{Ccz, Cz, Cnot}
+use Rattle.circuit.specs.declared.Gate.the-variants.{Ccz, Cz, Cnot, Z}
 use Rattle.circuit.specs.Colours.{numberOf}
 
 -- What a line has its place by: CCZ terms come first, by red, then blue, then green position; then CZ terms by their colours, red-blue, red-green,
--- blue-green, and then by the first and the second position. A CNOT is no line of a listing.
+-- blue-green, and then by the first and the second position; last Z terms by their colour, r, b, g, and then by position. A CNOT is no line of a
+-- listing.
 unfoldable pub placedBy : Gate → List ℕ
 placedBy (Ccz i j k) = 1 ∷ i ∷ j ∷ k ∷ []
 placedBy (Cz p q) = 2 ∷ numberOf (p .colour) ∷ numberOf (q .colour) ∷ p .position ∷ q .position ∷ []
 placedBy (Cnot C c t) = []
+placedBy (Z p) = 3 ∷ numberOf (p .colour) ∷ p .position ∷ []
 
 -- Numbers compared from the left: the first place where they differ decides.
 unfoldable pub lower : List ℕ → List ℕ → Bool
@@ -24,11 +26,12 @@ lower (n ∷ ns) (k ∷ ks) = ltb n k || (eqb n k && lower ns ks)
 unfoldable pub comesBefore : Gate → Gate → Bool
 comesBefore g h = lower (placedBy g) (placedBy h)
 
--- Is a gate written as a line of a listing: a CCZ, or a CZ with its colours in the order r, b, g?
+-- Is a gate written as a line of a listing: a CCZ, a CZ with its colours in the order r, b, g, or a Z?
 unfoldable pub isWritten : Gate → Bool
 isWritten (Ccz i j k) = true
 isWritten (Cz p q) = ltb (numberOf (p .colour)) (numberOf (q .colour))
 isWritten (Cnot C c t) = false
+isWritten (Z p) = true
 
 -- Does it come before the first of those that follow it?
 unfoldable pub beforeNext : Gate → List Gate → Bool

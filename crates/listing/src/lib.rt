@@ -1,11 +1,10 @@
-// The terms of a polynomial in order: CCZ terms by red, blue and green position, then CZ terms red-blue, red-green, blue-green.
-// The listing falls into 544 cells, each what one word holds under a mask, so that a word of terms is passed at one step.
+// The terms of a polynomial in order: CCZ terms by red, blue and green position, then CZ terms red-blue, red-green, blue-green, then Z terms.
+// The listing falls into 577 cells, each what one word holds under a mask, so that a word of terms is passed at one step.
 ghost use mathlib.Core.Path.{_≡_};
-ghost use Prim.Native.Nat.{_<_};
 ghost use lib.ListN.{length, getD};
 ghost use Rattle.gf2.specs.Words.{bitAt};
 ghost use Rattle.circuit.specs.Polynomial.{Polynomial};
-ghost use Rattle.listing.specs.Listing.{listing, entryOf, gateOfTerm};
+ghost use Rattle.listing.specs.Listing.{listing, entryOf, gateOfTwo, gateOfTerm};
 ghost use Rattle.polynomial.specs.Words.{wordsOf};
 ghost use Rattle.listing.specs.Cells.{concatBelow, marked, cellRed, cellBlue, cellMask, cellWord, cellTerms};
 use circuit::Colour;
@@ -15,14 +14,20 @@ use circuit::MOST_POSITIONS;
 use circuit::Spot;
 use polynomial::WORDS;
 
-// The cells: first those of CCZ terms, then from these numbers on those of red-blue, red-green and blue-green terms.
+// The cells: first those of CCZ terms, then from these numbers on those of red-blue, red-green and blue-green terms, and of Z terms.
 const RED_BLUE: usize = 256;
 
 const RED_GREEN: usize = 512;
 
 const BLUE_GREEN: usize = 528;
 
-const CELLS: usize = 544;
+const RED_ALONE: usize = 544;
+
+const BLUE_ALONE: usize = 560;
+
+const GREEN_ALONE: usize = 576;
+
+const CELLS: usize = 577;
 
 const LAST_CELL: usize = CELLS - 1;
 
@@ -53,6 +58,12 @@ fn red_of(n: usize) -> usize
     if n < BLUE_GREEN {
         return n - RED_GREEN + 1;
     }
+    if n < RED_ALONE {
+        return 0;
+    }
+    if n < BLUE_ALONE {
+        return n - RED_ALONE + 1;
+    }
     0
 }
 
@@ -65,7 +76,16 @@ fn blue_of(n: usize) -> usize
     if n < BLUE_GREEN {
         return 0;
     }
-    n - BLUE_GREEN + 1
+    if n < RED_ALONE {
+        return n - BLUE_GREEN + 1;
+    }
+    if n < BLUE_ALONE {
+        return 0;
+    }
+    if n < GREEN_ALONE {
+        return n - BLUE_ALONE + 1;
+    }
+    0
 }
 
 // The bits of a cell's terms in their word.
@@ -78,12 +98,17 @@ fn mask_of(n: usize) -> u32
     if n < RED_GREEN {
         return NO_GREEN;
     }
+    if n < RED_ALONE {
+        return GREEN;
+    }
+    if n < GREEN_ALONE {
+        return NO_GREEN;
+    }
     GREEN
 }
 
-// The terms of cell `n`, a bit for each.
+// The terms of cell `n`, a bit for each; a number past the last cell is taken for that one.
 fn cell(words: &[u32; WORDS], n: usize) -> u32
-    requires { ⌜ n < 544 ⌝ }
     ensures { λ r. ⌜ r ≡ cellWord (now (words .entry)) n ⌝ }
 {
     words[INDICES * red_of(n) + blue_of(n)] & mask_of(n)
@@ -104,8 +129,7 @@ pub fn count(words: [u32; WORDS]) -> usize
 
 // Where place `n` of the listing is; a place past its end is past the end of the last cell.
 fn find(words: &[u32; WORDS], n: usize) -> Place
-    ensures cell { λ r. ⌜ r .cell < 544 ⌝ }
-    ensures place { λ r. ⌜ entryOf (concatBelow 544 (cellTerms (now (words .entry)))) n ≡ entryOf (cellTerms (now (words .entry)) (r .cell)) (r .left) ⌝ }
+    ensures { λ r. ⌜ entryOf (concatBelow 577 (cellTerms (now (words .entry)))) n ≡ entryOf (cellTerms (now (words .entry)) (r .cell)) (r .left) ⌝ }
 {
     let mut left = n;
     let mut at = 0;
@@ -138,6 +162,19 @@ fn select(w: u32, n: usize) -> usize
     INDICES
 }
 
+// The gate of two colours' indices: a CZ, or a Z where one of them is 0.
+fn gate_of_two(p: Spot, q: Spot) -> Gate
+    ensures { λ r. ⌜ r ≡ gateOfTwo (p .colour) (p .position) (q .colour) (q .position) ⌝ }
+{
+    if p.position == 0 {
+        return Gate::Z(q);
+    }
+    if q.position == 0 {
+        return Gate::Z(p);
+    }
+    Gate::Cz(p, q)
+}
+
 // The gate that adds a term, by the term's indices.
 fn gate_of_term(i: usize, j: usize, k: usize) -> Gate
     ensures { λ r. ⌜ r ≡ gateOfTerm i j k ⌝ }
@@ -155,13 +192,13 @@ fn gate_of_term(i: usize, j: usize, k: usize) -> Gate
         position: k,
     };
     if i == 0 {
-        return Gate::Cz(blue, green);
+        return gate_of_two(blue, green);
     }
     if j == 0 {
-        return Gate::Cz(red, green);
+        return gate_of_two(red, green);
     }
     if k == 0 {
-        return Gate::Cz(red, blue);
+        return gate_of_two(red, blue);
     }
     Gate::Ccz(i, j, k)
 }

@@ -7,7 +7,7 @@ use Rattle.circuit.specs.declared.Colour.{Colour}
 use Rattle.circuit.specs.declared.Colour.the-variants.{Red, Blue, Green}
 use Rattle.circuit.specs.declared.Spot.{Spot}
 use Rattle.circuit.specs.Colours.{sameColour, the}
-use Rattle.circuit.specs.Polynomial.{Term, term, pair}
+use Rattle.circuit.specs.Polynomial.{Term, term, alone, pair}
 use Rattle.circuit.proofs.Colours.{the-put}
 
 pub no-index : (C : Colour) → 0 ≡ the C (term 0 0 0)
@@ -23,7 +23,7 @@ term-unique h i j k p q r = rw (p, q, r)
 
 -- The index of a pair in a colour is a position of the pair, or 0.
 pub pair-index-le : (n : ℕ) (p q : Spot) → p .position ≤ n → q .position ≤ n → (C : Colour) → the C (pair p q) ≤ n
-unfolding pair
+unfolding pair alone
 pair-index-le n p q hp hq C =
     rw (the-put, the-put, sym (no-index C)) (one (sameColour C (p .colour)) (sameColour C (q .colour)))
   where

@@ -22,6 +22,7 @@ unfolding inRange onItself colourTwice isGate
 gate-by-tests m (Gate.Ccz i j k) r s t = r
 gate-by-tests m (Gate.Cz p q) r s t = both-not (isPosition m (p .position)) (isPosition m (q .position)) (sameColour (p .colour) (q .colour)) r t
 gate-by-tests m (Gate.Cnot C c t) r s u = both-not (isPosition m c) (isPosition m t) (eqb c t) r s
+gate-by-tests m (Gate.Z p) r s t = r
 
 pub gates-by-tests :
     (m : ℕ) (gs : List Gate) → allInRange m gs ≡ true → anyOnItself gs ≡ false → anyColourTwice gs ≡ false → areGates m gs ≡ true

@@ -87,10 +87,11 @@ on-classes f b ks c a h = on-keys f b ks (tagOf class-type c) a h ∙ ap f (clas
 
 -- A gate that is no `cnot`, by its number in the enum.
 abbrev allButCnot : List ℕ
-allButCnot = 0 ∷ 1 ∷ []
+allButCnot = 0 ∷ 1 ∷ 3 ∷ []
 
 pub no-control : (g : Gate) → OneOf allButCnot (tagOf gate-type g) → false ≡ onItself g
 unfolding onItself
 no-control (Gate.Ccz i j k) h = refl
 no-control (Gate.Cz p q) h = refl
 no-control (Gate.Cnot C c t) h = absurd (miss allButCnot 2 tt h)
+no-control (Gate.Z p) h = refl

@@ -12,7 +12,7 @@ use Rattle.gf2.proofs.Bits.{and-both}
 use Rattle.gf2.proofs.Impossible.{never}
 use Rattle.gf2.specs.Strings.{BitString}
 use Rattle.circuit.specs.declared.Gate.{Gate}
-use Rattle.circuit.specs.declared.Gate.the-variants.{Ccz, Cz, Cnot}
+use Rattle.circuit.specs.declared.Gate.the-variants.{Ccz, Cz, Cnot, Z}
 use Rattle.circuit.specs.Sum.{isPosition}
 use Rattle.text.specs.Reading.{capped, heldBits}
 use Rattle.text.proofs.Capped.{capped-exact}
@@ -77,6 +77,7 @@ module _ (m : ℕ) (small : m ≤ 16) where
   gate-in-range (Ccz i j k) = rw (position-capped i, position-capped j, position-capped k)
   gate-in-range (Cz p q) = rw (position-capped (p .position), position-capped (q .position))
   gate-in-range (Cnot C c t) = rw (position-capped c, position-capped t)
+  gate-in-range (Z p) = position-capped (p .position)
 
   pub held-in-range : (gs : List Gate) → allInRange m (map heldGate gs) ≡ allInRange m gs
   unfolding allInRange
@@ -93,6 +94,7 @@ module _ (m : ℕ) (small : m ≤ 16) where
       let both = and-both (isPosition m (p .position)) (isPosition m (q .position)) w in
       rw (position-inside (p .position) (both .0), position-inside (q .position) (both .1))
   gate-inside (Cnot C c t) w = let both = and-both (isPosition m c) (isPosition m t) w in rw (position-inside c (both .0), position-inside t (both .1))
+  gate-inside (Z p) w = rw (position-inside (p .position) w)
 
   -- Gates whose positions are in range are held as they were typed.
   pub held-inside : (gs : List Gate) → allInRange m gs ≡ true → map heldGate gs ≡ gs
@@ -167,6 +169,7 @@ row-told l t h = go t h (form-read l t h .colours)
     go (gate (Ccz i j k)) h c = (_, refl, gates-told l (gate (Ccz i j k)) c _ _ refl refl refl)
     go (gate (Cz p q)) h c = (_, refl, gates-told l (gate (Cz p q)) c _ _ refl refl refl)
     go (gate (Cnot C i j)) h c = (_, refl, gates-told l (gate (Cnot C i j)) c _ _ refl refl refl)
+    go (gate (Z p)) h c = (_, refl, gates-told l (gate (Z p)) c _ _ refl refl refl)
     go (layer gs) h c =
         (_, refl, gates-told l (layer gs) c (Gates.Layer (length gs)) gs refl (layer-walked l (length gs) (ap heldReading h) ∙ handed-on l gs h) refl)
     go (undo k) h c = (_, refl, number-told l (undo k) c Class.TakesBack k 1 4096 (omega arith) (omega arith) refl)
@@ -202,6 +205,7 @@ held-colours [] = refl
 held-colours (Ccz i j k ∷ gs) = held-colours gs
 held-colours (Cz p q ∷ gs) = rw (held-colours gs)
 held-colours (Cnot C c t ∷ gs) = held-colours gs
+held-colours (Z p ∷ gs) = held-colours gs
 
 module _ (l : List ℕ) (t : Typed) (r : HeldRow) (told : Tells l t r) where
   -- No `cz` that the code meets names one colour twice.

@@ -13,7 +13,7 @@ use Rattle.gf2.proofs.Bits.{and-both}
 use Rattle.gf2.proofs.WordBits.{one-shifted, odd-tested, bitAt-or, bitAt-pow, bitAt-zero}
 use Rattle.circuit.specs.declared.Spot.{Spot}
 use Rattle.circuit.specs.declared.Gate.{Gate}
-use Rattle.circuit.specs.declared.Gate.the-variants.{Ccz, Cz, Cnot}
+use Rattle.circuit.specs.declared.Gate.the-variants.{Ccz, Cz, Cnot, Z}
 use Rattle.circuit.specs.Colours.{numberOf}
 use Rattle.circuit.specs.Sum.{isPosition}
 use Rattle.circuit.specs.Layers.{spot, touches, layerTouches, sameSpot, isAmong}
@@ -91,6 +91,7 @@ module _ (m : ℕ) (small : m ≤ 16) where
   gate-placed (Cnot C c t) h =
       let both = and-both (isPosition m c) (isPosition m t) h in
       (position-placed c (both .0), (position-placed t (both .1), tt))
+  gate-placed (Z p) h = (position-placed (p .position) h, tt)
 
   gates-placed : (gs : List Gate) → allInRange m gs ≡ true → Placed (layerTouches gs)
   unfolding allInRange layerTouches

@@ -62,6 +62,7 @@ unfoldable pub inRange : ℕ → Gate → Bool
 inRange m (Gate.Ccz i j k) = isPosition m i && (isPosition m j && isPosition m k)
 inRange m (Gate.Cz p q) = isPosition m (p .position) && isPosition m (q .position)
 inRange m (Gate.Cnot C c t) = isPosition m c && isPosition m t
+inRange m (Gate.Z p) = isPosition m (p .position)
 
 unfoldable pub allInRange : ℕ → List Gate → Bool
 allInRange m [] = true
@@ -76,6 +77,7 @@ unfoldable pub onItself : Gate → Bool
 onItself (Gate.Ccz i j k) = false
 onItself (Gate.Cz p q) = false
 onItself (Gate.Cnot C c t) = eqb c t
+onItself (Gate.Z p) = false
 
 unfoldable pub anyOnItself : List Gate → Bool
 anyOnItself [] = false

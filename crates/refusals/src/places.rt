@@ -112,6 +112,7 @@ fn in_range(m: usize, g: Gate) -> bool
         Gate::Ccz(i, j, k) => circuit::is_position(m, i) && both_positions(m, j, k),
         Gate::Cz(p, q) => both_positions(m, p.position, q.position),
         Gate::Cnot(_, c, t) => both_positions(m, c, t),
+        Gate::Z(p) => circuit::is_position(m, p.position),
     }
 }
 

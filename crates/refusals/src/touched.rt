@@ -45,5 +45,9 @@ pub(crate) fn touch_gate(touched: Touched, g: Gate) -> Touched
             let with_control = touch(touched, colour, c);
             touch(with_control, colour, t)
         }
+        Gate::Z(p) => {
+            let colour = p.colour;
+            touch(touched, colour, p.position)
+        }
     }
 }

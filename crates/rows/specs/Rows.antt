@@ -27,6 +27,7 @@ heldRow (Form.Circuit m) = numberedRow Class.Creates m 1 16
 heldRow (Form.Ccz i j k) = gateRow (Gates.One (Gate.Ccz i j k)) 1
 heldRow (Form.Cz p q) = gateRow (Gates.One (Gate.Cz p q)) 1
 heldRow (Form.Cnot C c t) = gateRow (Gates.One (Gate.Cnot C c t)) 1
+heldRow (Form.Z p) = gateRow (Gates.One (Gate.Z p)) 1
 heldRow (Form.Layer n) = gateRow (Gates.Layer n) n
 heldRow (Form.Undo k) = numberedRow Class.TakesBack k 1 4096
 heldRow (Form.Start r b g) = stringRow Class.Starts (Strings.Three r b g)

@@ -83,6 +83,7 @@ pub fn row_of(form: Form) -> FormRow
         Form::Ccz(i, j, k) => with_gates(Gates::One(Gate::Ccz(i, j, k)), 1),
         Form::Cz(p, q) => with_gates(Gates::One(Gate::Cz(p, q)), 1),
         Form::Cnot(colour, c, t) => with_gates(Gates::One(Gate::Cnot(colour, c, t)), 1),
+        Form::Z(p) => with_gates(Gates::One(Gate::Z(p)), 1),
         Form::Layer(n) => with_gates(Gates::Layer(n), n),
         Form::Undo(k) => numbered(Class::TakesBack, k, 1, 4096),
         Form::Start(r, b, g) => with_strings(Class::Starts, Strings::Three(r, b, g)),

@@ -15,8 +15,8 @@ use engine::State;
 use framing::Pending;
 use output::Waiting;
 
-// Every term of a polynomial over 16 positions: 16^3 of three positions, 3 times 16^2 of two.
-const MOST_TERMS: usize = 4864;
+// Every term of a polynomial over 16 positions: 16^3 of three positions, 3 times 16^2 of two, 3 times 16 of one.
+const MOST_TERMS: usize = 4912;
 
 // The engine and its answers that wait.
 pub struct Session {

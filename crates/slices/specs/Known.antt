@@ -7,7 +7,7 @@ use Rattle.gf2.specs.Strings.{BitString, _⊞_}
 use Rattle.circuit.specs.declared.Colour.{Colour}
 use Rattle.circuit.specs.declared.Colour.the-variants.{Red, Blue, Green}
 use Rattle.circuit.specs.declared.Gate.{Gate}
-use Rattle.circuit.specs.declared.Gate.the-variants.{Ccz, Cz, Cnot}
+use Rattle.circuit.specs.declared.Gate.the-variants.{Ccz, Cz, Cnot, Z}
 use Rattle.circuit.specs.Colours.{the, first, second}
 use Rattle.circuit.specs.Sum.{Basis, signedSum}
 use Rattle.circuit.specs.Start.{allZeros, carriedStart}
@@ -57,6 +57,15 @@ cnotThenCcz = Cnot Red 2 1 ∷ Ccz 1 1 1 ∷ []
 unfoldable pub oneCnot : List Gate
 oneCnot = Cnot Red 1 2 ∷ []
 
+unfoldable pub oneZ : List Gate
+oneZ = Z (record { colour = Red; position = 1 }) ∷ []
+
+unfoldable pub zThenCnot : List Gate
+zThenCnot = Z (record { colour = Red; position = 1 }) ∷ Cnot Red 2 1 ∷ []
+
+unfoldable pub cnotThenZ : List Gate
+cnotThenZ = Cnot Red 2 1 ∷ oneZ
+
 -- The start of red 01.
 unfoldable pub secondRed : Basis
 secondRed = record { red = o ∷ i ∷ []; blue = o ∷ o ∷ []; green = o ∷ o ∷ [] }
@@ -84,4 +93,10 @@ knownTable =
     ∷ record { m = 2; start = secondRed; gates = oneCnot; asked = countBeside Green (i ∷ i ∷ []) (o ∷ o ∷ []); number = pos 64 }
     ∷ record { m = 2; start = secondRed; gates = oneCnot; asked = countOf Red (i ∷ i ∷ []); number = pos 16 }
     ∷ record { m = 2; start = secondRed; gates = []; asked = sumAt (o ∷ i ∷ []) (o ∷ o ∷ []) (o ∷ o ∷ []); number = pos 64 }
+    ∷ record { m = 1; start = allZeros 1; gates = oneZ; asked = sumAt (i ∷ []) (o ∷ []) (o ∷ []); number = pos 8 }
+    ∷ record { m = 1; start = allZeros 1; gates = oneZ; asked = sumAt (o ∷ []) (o ∷ []) (o ∷ []); number = pos 0 }
+    ∷ record { m = 1; start = allZeros 1; gates = oneZ; asked = countBeside Green (i ∷ []) (o ∷ []); number = pos 8 }
+    ∷ record { m = 1; start = allZeros 1; gates = oneZ; asked = countOf Red (i ∷ []); number = pos 4 }
+    ∷ record { m = 2; start = allZeros 2; gates = zThenCnot; asked = sumAt (i ∷ i ∷ []) (o ∷ o ∷ []) (o ∷ o ∷ []); number = pos 64 }
+    ∷ record { m = 2; start = allZeros 2; gates = cnotThenZ; asked = sumAt (i ∷ o ∷ []) (o ∷ o ∷ []) (o ∷ o ∷ []); number = pos 64 }
     ∷ []

@@ -28,20 +28,21 @@ without n [] = []
 without n (k ∷ ks) = cond (eqb k n) ks (k ∷ without n ks)
 
 abbrev pub besides : Form → List ℕ
-besides f = without (tagOf the-type f) (below 14)
+besides f = without (tagOf the-type f) (below 15)
 
 -- A stage that finds none but other forms does not find its own.
 pub own-form : {A : Type 0} (form own : Form) → form ≡ own → T (not (hasKey (besides own) (tagOf the-type own))) → OneOf (besides own) (tagOf the-type form) → A
 own-form form own e h o = absurd (miss (besides own) (tagOf the-type own) h (rw e at o))
 
 -- A form that was not refused is given back with no number.
-pub not-refused : (k : Held) (x : Sum) (form : Form) → OneOf (below 13) (tagOf the-type form) →
+pub not-refused : (k : Held) (x : Sum) (form : Form) → OneOf (below 14) (tagOf the-type form) →
     record { circuit = k; sum = x; answer = Answer.Refused 0 } ≡ givenBack k x form
 unfolding givenBack refusalIn
 not-refused k x (Form.Circuit m) o = refl
 not-refused k x (Form.Ccz i j l) o = refl
 not-refused k x (Form.Cz p q) o = refl
 not-refused k x (Form.Cnot C c t) o = refl
+not-refused k x (Form.Z p) o = refl
 not-refused k x (Form.Layer n) o = refl
 not-refused k x (Form.Undo n) o = refl
 not-refused k x (Form.Start r b g) o = refl
@@ -51,7 +52,7 @@ not-refused k x (Form.One C u) o = refl
 not-refused k x (Form.Step n) o = refl
 not-refused k x Form.Drop o = refl
 not-refused k x Form.Terms o = refl
-not-refused k x (Form.Refused e) o = absurd (miss (below 13) 13 tt o)
+not-refused k x (Form.Refused e) o = absurd (miss (below 14) 14 tt o)
 
 -- ---- positions
 

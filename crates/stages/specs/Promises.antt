@@ -57,6 +57,7 @@ refusalIn (Form.Circuit m) = 0
 refusalIn (Form.Ccz i j k) = 0
 refusalIn (Form.Cz p q) = 0
 refusalIn (Form.Cnot C c t) = 0
+refusalIn (Form.Z p) = 0
 refusalIn (Form.Layer n) = 0
 refusalIn (Form.Undo k) = 0
 refusalIn (Form.Start r b g) = 0

@@ -19,7 +19,7 @@ pub record Turn : Type 0 where
 abbrev pub gives : Circuit → Opened → Answer → Turn
 gives c o a = record { circuit = c; opened = o; answer = a }
 
--- What a form does that no place turns back (Manual 5.1 to 5.13), and its answer: L is 2^m where a sum is opened; `terms` is answered with the
+-- What a form does that no place turns back (Manual 5.1 to 5.14), and its answer: L is 2^m where a sum is opened; `terms` is answered with the
 -- number of terms, and their lines are fetched (Manual 9.3).
 unfoldable pub accepted : Circuit → Opened → Typed → Turn
 accepted c o (circuit m) = gives (newCircuit m) closed Ok

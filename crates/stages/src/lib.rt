@@ -109,6 +109,17 @@ pub fn cnot_turn(circuit: Held, sum: Sum, history: &mut [u32], form: Form) -> Tu
     with_gate(circuit, sum, history, Gate::Cnot(colour, control, target))
 }
 
+pub fn z_turn(circuit: Held, sum: Sum, history: &mut [u32], form: Form) -> Turn
+    ensures { λ t. ⌜ ((p : Spot) → form ≡ Form.Z p →
+        Builds (Gate.Z p ∷ []) circuit sum (now (history .entry)) t (now (history .exit))) ⌝ }
+    ensures { λ t. ⌜ (((p : Spot) → form ≡ Form.Z p → ⊥) → (t ≡ givenBack circuit sum form) × (now (history .exit) ≡ now (history .entry))) ⌝ }
+{
+    let Form::Z(p) = form else {
+        return turned_back(circuit, sum, form);
+    };
+    with_gate(circuit, sum, history, Gate::Z(p))
+}
+
 pub fn layer_turn(circuit: Held, sum: Sum, history: &mut [u32], line: &[u8], form: Form) -> Turn
     ensures { λ t. ⌜ ((n : ℕ) → form ≡ Form.Layer n →
         Builds (gatesMet n (now (line .entry)) 6) circuit sum (now (history .entry)) t (now (history .exit))) ⌝ }

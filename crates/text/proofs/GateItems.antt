@@ -4,7 +4,7 @@ use mathlib.Core.Path.{_≡_}
 use mathlib.Core.List.{List, _∷_, _++_, append-assoc}
 use Rattle.circuit.specs.declared.Colour.{Colour}
 use Rattle.circuit.specs.declared.Spot.{Spot}
-use Rattle.circuit.specs.declared.Gate.the-variants.{Ccz, Cz, Cnot}
+use Rattle.circuit.specs.declared.Gate.the-variants.{Ccz, Cz, Cnot, Z}
 use Rattle.text.specs.Spelling.{bytes, decimal, letter, spelledSpot, spelledGate}
 use Rattle.text.proofs.Items.{spaced}
 
@@ -39,3 +39,11 @@ cnotItems C c t rest = letter C ∷ spaced (decimal c ++ spaced (decimal t ++ (b
 pub cnot-items : (C : Colour) (c t : ℕ) (rest : List ℕ) → spelledGate (Cnot C c t) ++ rest ≡ bytes "(cnot " ++ cnotItems C c t rest
 unfolding spelledGate
 cnot-items C c t rest = simp append-assoc
+
+-- (C i)) and what follows
+abbrev pub zItems : Spot → List ℕ → List ℕ
+zItems p rest = spelledSpot p ++ (bytes ")" ++ rest)
+
+pub z-items : (p : Spot) (rest : List ℕ) → spelledGate (Z p) ++ rest ≡ bytes "(z " ++ zItems p rest
+unfolding spelledGate
+z-items p rest = simp append-assoc

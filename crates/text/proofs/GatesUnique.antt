@@ -8,11 +8,11 @@ use Rattle.circuit.specs.declared.Colour.{Colour}
 use Rattle.circuit.specs.declared.Colour.the-variants.{Red, Blue, Green}
 use Rattle.circuit.specs.declared.Spot.{Spot}
 use Rattle.circuit.specs.declared.Gate.{Gate}
-use Rattle.circuit.specs.declared.Gate.the-variants.{Ccz, Cz, Cnot}
+use Rattle.circuit.specs.declared.Gate.the-variants.{Ccz, Cz, Cnot, Z}
 use Rattle.text.specs.Spelling.{bytes, letter, spelledSpot, spelledGate, begins}
-use Rattle.text.specs.Items.{pastNumber, colourOf, spotOf, cczOf, czOf, cnotOf, gateOf}
+use Rattle.text.specs.Items.{pastNumber, colourOf, spotOf, cczOf, czOf, cnotOf, zOf, gateOf}
 use Rattle.text.proofs.Decimal.{value-decimal, after-decimal}
-use Rattle.text.proofs.GateItems.{spot-items, ccz-items, cz-items, cnot-items}
+use Rattle.text.proofs.GateItems.{spot-items, ccz-items, cz-items, cnot-items, z-items}
 
 pub colour-of-letter : (c : Colour) → colourOf (letter c) ≡ c
 unfolding colourOf
@@ -29,10 +29,11 @@ past-spot : (p : Spot) (rest : List ℕ) → pastNumber (drop 3 (spelledSpot p +
 past-spot p rest = rw (spot-items p rest) (ap (drop 1) (after-decimal (p .position) (bytes ")" ++ rest) refl))
 
 pub gate-of-spelled : (g : Gate) (rest : List ℕ) → gateOf (spelledGate g ++ rest) ≡ g
-unfolding gateOf cczOf czOf cnotOf begins
+unfolding gateOf cczOf czOf cnotOf zOf begins
 gate-of-spelled (Ccz i j k) rest = rw (ccz-items i j k rest) (simp (value-decimal, after-decimal))
 gate-of-spelled (Cz p q) rest = rw (cz-items p q rest) (simp (spot-of-spelled, past-spot))
 gate-of-spelled (Cnot C c t) rest = rw (cnot-items C c t rest) (simp (colour-of-letter, value-decimal, after-decimal))
+gate-of-spelled (Z p) rest = rw (z-items p rest) (ap Z (spot-of-spelled p (bytes ")" ++ rest)))
 
 pub gate-of-line : (g : Gate) → gateOf (spelledGate g) ≡ g
 gate-of-line g = sym (ap gateOf (append-nil (spelledGate g))) ∙ gate-of-spelled g []
@@ -52,3 +53,4 @@ unfolding spelledGate
 spelled-some (Ccz i j k) = omega arith
 spelled-some (Cz p q) = omega arith
 spelled-some (Cnot C c t) = omega arith
+spelled-some (Z p) = omega arith

@@ -10,7 +10,7 @@ use Rattle.circuit.specs.declared.Colour.{Colour}
 use Rattle.circuit.specs.declared.Colour.the-variants.{Red, Blue, Green}
 use Rattle.circuit.specs.declared.Spot.{Spot}
 use Rattle.circuit.specs.declared.Gate.{Gate}
-use Rattle.circuit.specs.declared.Gate.the-variants.{Ccz, Cz, Cnot}
+use Rattle.circuit.specs.declared.Gate.the-variants.{Ccz, Cz, Cnot, Z}
 use Rattle.text.specs.Spelling.{bytes, begins}
 
 abbrev pub isDigit : ℕ → Bool
@@ -57,7 +57,11 @@ czOf l = Cz (spotOf l) (spotOf (drop 1 (pastNumber (drop 3 l))))
 unfoldable pub cnotOf : List ℕ → Gate
 cnotOf l = Cnot (colourOf (getD l 0 0)) (valueFrom 0 (drop 2 l)) (valueFrom 0 (pastNumber (drop 2 l)))
 
+unfoldable pub zOf : List ℕ → Gate
+zOf l = Z (spotOf l)
+
 -- The gate at the front.
 unfoldable pub gateOf : List ℕ → Gate
 gateOf l =
-    cond (begins (bytes "(ccz ") l) (cczOf (drop 5 l)) (cond (begins (bytes "(cz ") l) (czOf (drop 4 l)) (cnotOf (drop 6 l)))
+    cond (begins (bytes "(ccz ") l) (cczOf (drop 5 l))
+    (cond (begins (bytes "(cz ") l) (czOf (drop 4 l)) (cond (begins (bytes "(z ") l) (zOf (drop 3 l)) (cnotOf (drop 6 l))))

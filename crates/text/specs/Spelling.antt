@@ -11,7 +11,7 @@ use Rattle.circuit.specs.declared.Colour.{Colour}
 use Rattle.circuit.specs.declared.Colour.the-variants.{Red, Blue, Green}
 use Rattle.circuit.specs.declared.Spot.{Spot}
 use Rattle.circuit.specs.declared.Gate.{Gate}
-use Rattle.circuit.specs.declared.Gate.the-variants.{Ccz, Cz, Cnot}
+use Rattle.circuit.specs.declared.Gate.the-variants.{Ccz, Cz, Cnot, Z}
 
 -- The bytes of a keyword.
 abbrev pub bytes : String → List ℕ
@@ -60,9 +60,11 @@ bitDigits (b ∷ bs) = cond b 49 48 ∷ bitDigits bs
 unfoldable pub spelledSpot : Spot → List ℕ
 spelledSpot p = bytes "(" ++ (letter (p .colour) ∷ (bytes " " ++ (decimal (p .position) ++ bytes ")")))
 
--- A gate, brackets included: a CCZ by its positions in order r, b, g, a CZ by its two spots, a CNOT by colour, control, target (Manual 5.2 to 5.4).
+-- A gate, brackets included: a CCZ by its positions in order r, b, g, a CZ by its two spots, a CNOT by colour, control, target, a Z by its spot
+-- (Manual 5.2 to 5.4, 5.14).
 unfoldable pub spelledGate : Gate → List ℕ
 spelledGate (Ccz i j k) = bytes "(ccz " ++ (decimal i ++ (bytes " " ++ (decimal j ++ (bytes " " ++ (decimal k ++ bytes ")")))))
 spelledGate (Cz p q) = bytes "(cz " ++ (spelledSpot p ++ (bytes " " ++ (spelledSpot q ++ bytes ")")))
 spelledGate (Cnot C c t) =
     bytes "(cnot " ++ (letter C ∷ (bytes " " ++ (decimal c ++ (bytes " " ++ (decimal t ++ bytes ")")))))
+spelledGate (Z p) = bytes "(z " ++ (spelledSpot p ++ bytes ")")

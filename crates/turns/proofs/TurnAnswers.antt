@@ -1,20 +1,20 @@
--- What the engine answers is modest: refusals are numbered up to 14, sums are within 2^48, a listing has at most 4,864 terms. So every
+-- What the engine answers is modest: refusals are numbered up to 14, sums are within 2^48, a listing has at most 4,912 terms. So every
 -- answer has room in 64 bytes.
 use mathlib.Core.Path.{_≡_, refl, ap, sym, _∙_, subst}
 use mathlib.Core.Bool.{Bool, true, false, cond}
-use mathlib.Core.List.{List, [], _∷_}
+use mathlib.Core.List.{List}
 use Prim.Native.Nat.{ℕ, zero, suc, _+_, _-_, _*_, _^_, _≤_, _<_}
 use native.Mathlib.Nat.{le-refl, lt-of-le-of-lt}
 use native.Mathlib.Omega.{arith}
 use lib.Dec.{ltb}
 use lib.IntN.{natAbs}
-use lib.ListN.{length, length-append}
+use lib.ListN.{length}
 use lib.Pow.{pow-add, pow-lt}
 use Rattle.gf2.specs.Strings.{BitString}
 use Rattle.circuit.specs.declared.Colour.{Colour}
 use Rattle.circuit.specs.Sum.{Basis}
-use Rattle.circuit.specs.Polynomial.{Term, Polynomial, polynomial}
-use Rattle.listing.specs.Listing.{overPositions, triples, pairsBeside, everyTerm, among, listing}
+use Rattle.circuit.specs.Polynomial.{Polynomial, polynomial}
+use Rattle.listing.proofs.Longest.{listing-most}
 use Rattle.slices.specs.Totals.{amplitudeAfter, readoutCount}
 use Rattle.slices.specs.OneColour.{oneAfter}
 use Rattle.slices.proofs.Bounds.{amplitudeAfter-bound, readoutCount-bound, oneAfter-bound}
@@ -58,39 +58,6 @@ refusal-most c o room l = go (readingOf l) refl
         (or-else-most 14 _ _
         (or-else-most 14 _ _ (refused-if-most 14 9 _ (omega arith)) (or-else-most 14 _ _ (refused-if-most 14 10 _ (omega arith)) (or-else-most 14 _ _ (refused-if-most 14 14 _ (omega arith)) (refused-if-most 14 11 _ (omega arith)))))
         (or-else-most 14 _ _ (refused-if-most 14 12 _ (omega arith)) (refused-if-most 14 13 _ (omega arith))))
-
--- ---- a listing's length
-
-length-over : (n k : ℕ) (f : ℕ → List Term) → ((i : ℕ) → length (f i) ≡ k) → length (overPositions n f) ≡ n * k
-unfolding overPositions
-length-over zero k f h = omega arith
-length-over (suc n) k f h = length-append (overPositions n f) (f (suc n)) ∙ omega (arith, length-over n k f h, h (suc n))
-
-length-triples : (m : ℕ) → length (triples m) ≡ m * (m * (m * 1))
-unfolding triples
-length-triples m = length-over m (m * (m * 1)) _ (λ i. length-over m (m * 1) _ (λ j. length-over m 1 _ (λ k. refl)))
-
-length-pairs : (C : Colour) (m : ℕ) → length (pairsBeside C m) ≡ m * (m * 1)
-unfolding pairsBeside
-length-pairs C m = length-over m (m * 1) _ (λ i. length-over m 1 _ (λ j. refl))
-
-among-most : (f : Polynomial) (hs : List Term) → length (among f hs) ≤ length hs
-unfolding among
-among-most f [] = omega arith
-among-most f (h ∷ hs) = go (f h) (among-most f hs)
-  where
-    go : (b : Bool) → length (among f hs) ≤ length hs → length (cond b (h ∷ among f hs) (among f hs)) ≤ suc (length hs)
-    go true l = omega arith
-    go false l = omega arith
-
--- 16^3 triples and 3 times 16^2 pairs.
-length-every : length (everyTerm 16) ≡ 4864
-unfolding everyTerm
-length-every = simp (length-append, length-triples, length-pairs)
-
-listing-most : (f : Polynomial) → length (listing 16 f) ≤ 4864
-unfolding listing
-listing-most f = omega (arith, among-most f (everyTerm 16), length-every)
 
 -- ---- sums
 

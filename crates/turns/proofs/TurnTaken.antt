@@ -30,7 +30,7 @@ use Rattle.forms.specs.Spelling.{typed}
 use Rattle.lines.specs.Readings.{readingOf}
 use Rattle.forms.specs.Held.{held, heldReading}
 use Rattle.lines.proofs.Readings.{form-read}
-use Rattle.forms.proofs.HeldForms.{HeldAs, circuits, cczs, czs, cnots, layers, undos, starts, amps, parts, ones, steps, drops, lists, held-as}
+use Rattle.forms.proofs.HeldForms.{HeldAs, circuits, cczs, czs, cnots, zs, layers, undos, starts, amps, parts, ones, steps, drops, lists, held-as}
 use Rattle.lines.proofs.LayerLine.{handed-on, layer-walked}
 use Rattle.answers.specs.declared.Answer.the-variants as Answer
 use Rattle.refusals.specs.Refusals.{allInRange, places, refusalBy}
@@ -173,6 +173,10 @@ module _ (c : Circuit) (o : Opened) (k : Held) (x : Sum) (h : List ℕ) (r' : Le
     pub cnot-taken : {t : Typed} {C : Colour} {d u : ℕ} → HeldAs t (Form.Cnot C d u) → readingOf line ≡ typed t → Free c o k x h t → Builds (Gate.Cnot C d u ∷ []) k x h r' h' → Taken c o h t r' h'
     unfolding heldGate
     cnot-taken (cnots {C = C} {c = d} {t = u}) is f built = gates-taken _ is single (λ m most r. held-inside m most (Gate.Cnot C d u ∷ []) r) f built
+
+    pub z-taken : {t : Typed} {p : Spot} → HeldAs t (Form.Z p) → readingOf line ≡ typed t → Free c o k x h t → Builds (Gate.Z p ∷ []) k x h r' h' → Taken c o h t r' h'
+    unfolding heldGate
+    z-taken (zs {p}) is f d = gates-taken _ is single (λ m most r. held-inside m most (Gate.Z p ∷ []) r) f d
 
     pub layer-taken : {t : Typed} {n : ℕ} → HeldAs t (Form.Layer n) → readingOf line ≡ typed t → Free c o k x h t → Builds (gatesMet n line 6) k x h r' h' → Taken c o h t r' h'
     unfolding held heldReading

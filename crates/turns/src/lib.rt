@@ -24,6 +24,7 @@ fn taken(circuit: Held, sum: Sum, history: &mut [u32], line: &[u8], form: Form) 
         Form::Ccz(_, _, _) => stages::ccz_turn(circuit, sum, history, form),
         Form::Cz(_, _) => stages::cz_turn(circuit, sum, history, form),
         Form::Cnot(_, _, _) => stages::cnot_turn(circuit, sum, history, form),
+        Form::Z(_) => stages::z_turn(circuit, sum, history, form),
         Form::Layer(_) => stages::layer_turn(circuit, sum, history, line, form),
         Form::Undo(_) => stages::undo_turn(circuit, sum, &*history, form),
         Form::Start(_, _, _) => stages::start_turn(circuit, sum, &*history, form),

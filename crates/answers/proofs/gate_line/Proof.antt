@@ -24,6 +24,12 @@ enum-known-g-3 c = search needs
 cnot-line-requires : tie.Need-cnot-line-requires
 cnot-line-requires c κs = search needs
 
+enum-known-g-4 : tie.Need-enum-known-g-4
+enum-known-g-4 c = search needs
+
+z-line-requires : tie.Need-z-line-requires
+z-line-requires c κs = search needs
+
 returns : tie.Need-returns
 returns c = c .ccz-line .ensures ∙ ap (λ x. textOf (spelledGate x)) (sym (c .before .before .g .given .1))
 
@@ -32,6 +38,9 @@ returns-2 c = c .cz-line .ensures ∙ ap (λ x. textOf (spelledGate x)) (sym (c 
 
 returns-3 : tie.Need-returns-3
 returns-3 c = c .cnot-line .ensures ∙ ap (λ x. textOf (spelledGate x)) (sym (c .before .before .g3 .given .1))
+
+returns-4 : tie.Need-returns-4
+returns-4 c = c .z-line .ensures ∙ ap (λ x. textOf (spelledGate x)) (sym (c .before .before .g4 .given .1))
 
 pub gate-line-spec : {M : Type 1} → statement M
 gate-line-spec =
@@ -43,6 +52,9 @@ gate-line-spec =
     cz-line-requires
     enum-known-g-3
     cnot-line-requires
+    enum-known-g-4
+    z-line-requires
     returns
     returns-2
-    returns-3)
+    returns-3
+    returns-4)

@@ -6,7 +6,7 @@ use mathlib.Core.List.{List, [], _∷_}
 use denote.Enum.Declared.{tagOf}
 use types.Run.{OneOf, miss}
 use Rattle.circuit.specs.declared.Gate.{Gate}
-use Rattle.circuit.specs.declared.Gate.the-variants.{Ccz, Cz, Cnot}
+use Rattle.circuit.specs.declared.Gate.the-variants.{Ccz, Cz, Cnot, Z}
 use Rattle.circuit.proofs.Gate.{the-type}
 use Rattle.forms.specs.Spelling.{colourTwice}
 use borrow.Author.Needs.{needs}
@@ -14,13 +14,14 @@ use Rattle.forms.proofs.colour_twice.Statement.{statement}
 use Rattle.forms.proofs.colour_twice.Tie as tie
 
 abbrev others : List ℕ
-others = 0 ∷ 2 ∷ []
+others = 0 ∷ 2 ∷ 3 ∷ []
 
 other : (g : Gate) → OneOf others (tagOf the-type g) → false ≡ colourTwice g
 unfolding colourTwice
 other (Ccz i j k) h = refl
 other (Cz p q) h = absurd (miss others 1 tt h)
 other (Cnot C c t) h = refl
+other (Z p) h = refl
 
 enum-known-g : tie.Need-enum-known-g
 enum-known-g c = search needs

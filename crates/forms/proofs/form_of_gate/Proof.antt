@@ -13,6 +13,9 @@ enum-known-g-2 c = search needs
 enum-known-g-3 : tie.Need-enum-known-g-3
 enum-known-g-3 c = search needs
 
+enum-known-g-4 : tie.Need-enum-known-g-4
+enum-known-g-4 c = search needs
+
 returns : tie.Need-returns
 unfolding gateForm
 returns c = rw (c .before .g .given .1)
@@ -25,6 +28,11 @@ returns-3 : tie.Need-returns-3
 unfolding gateForm
 returns-3 c = rw (c .before .g3 .given .1)
 
+returns-4 : tie.Need-returns-4
+unfolding gateForm
+returns-4 c = rw (c .before .g4 .given .1)
+
 pub form-of-gate-spec : {M : Type 1} → statement M
 form-of-gate-spec =
-    tie.close (tie.spec enum-known-g enum-known-g-2 enum-known-g-3 returns returns-2 returns-3)
+    tie.close
+    (tie.spec enum-known-g enum-known-g-2 enum-known-g-3 enum-known-g-4 returns returns-2 returns-3 returns-4)

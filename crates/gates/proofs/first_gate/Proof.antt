@@ -1,4 +1,4 @@
--- The three keywords are tried in the order of `readGate`.
+-- The four keywords are tried in the order of `readGate`.
 use mathlib.Core.Path.{sym, _∙_}
 use Rattle.gates.specs.Gates.{readGate}
 use borrow.Author.Needs.{needs}
@@ -78,15 +78,47 @@ returns-3 c =
 enum-told-3 : tie.Need-enum-told-3
 enum-told-3 c = search needs
 
+slice-aggregate-read-keyword-4 : tie.Need-slice-aggregate-read-keyword-4
+slice-aggregate-read-keyword-4 c = search needs
+
+read-keyword-requires-4 : tie.Need-read-keyword-requires-4
+read-keyword-requires-4 c κs = search needs
+
+enum-known-a-4 : tie.Need-enum-known-a-4
+enum-known-a-4 c = search needs
+
+z-requires : tie.Need-z-requires
+z-requires c κs = search needs
+
 returns-4 : tie.Need-returns-4
 unfolding readGate
 returns-4 c =
-    let second = c .before .before .before .before in
+    let fourth = c .before .before in
+    let third = fourth .before .before .before .before in
+    let second = third .before .before .before .before in
     let first = second .before .before .before .before in
     rw (
       sym (first .before .before .read-keyword .ensures) ∙ first .enum-told .given .1,
       sym (second .before .before .read-keyword2 .ensures) ∙ second .enum-told2 .given .1,
-      sym (c .before .before .read-keyword3 .ensures) ∙ c .enum-told3 .given .1,
+      sym (third .before .before .read-keyword3 .ensures) ∙ third .enum-told3 .given .1,
+      sym (fourth .before .before .read-keyword4 .ensures) ∙ fourth .a4 .given .1,
+    )
+    (c .z .ensures)
+
+enum-told-4 : tie.Need-enum-told-4
+enum-told-4 c = search needs
+
+returns-5 : tie.Need-returns-5
+unfolding readGate
+returns-5 c =
+    let third = c .before .before .before .before in
+    let second = third .before .before .before .before in
+    let first = second .before .before .before .before in
+    rw (
+      sym (first .before .before .read-keyword .ensures) ∙ first .enum-told .given .1,
+      sym (second .before .before .read-keyword2 .ensures) ∙ second .enum-told2 .given .1,
+      sym (third .before .before .read-keyword3 .ensures) ∙ third .enum-told3 .given .1,
+      sym (c .before .before .read-keyword4 .ensures) ∙ c .enum-told4 .given .1,
     )
 
 pub first-gate-spec : {M : Type 1} → statement M
@@ -111,4 +143,10 @@ first-gate-spec =
     cnot-requires
     returns-3
     enum-told-3
-    returns-4)
+    slice-aggregate-read-keyword-4
+    read-keyword-requires-4
+    enum-known-a-4
+    z-requires
+    returns-4
+    enum-told-4
+    returns-5)

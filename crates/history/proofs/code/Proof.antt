@@ -30,6 +30,12 @@ add-packed c = omega (arith, cnot-kind (c .before .before .g3 .given .0 .0))
 packed-requires-2 : tie.Need-packed-requires-2
 packed-requires-2 c κs = omega (arith, cnot-kind (c .before .before .g3 .given .0 .0))
 
+enum-known-g-4 : tie.Need-enum-known-g-4
+enum-known-g-4 c = search needs
+
+z-code-requires : tie.Need-z-code-requires
+z-code-requires c κs = search needs
+
 returns : tie.Need-returns
 unfolding codeOf
 returns c = rw (c .before .before .g .given .1) (c .packed .ensures)
@@ -41,6 +47,10 @@ returns-2 c = rw (c .before .before .g2 .given .1) (c .cz-code .ensures)
 returns-3 : tie.Need-returns-3
 unfolding codeOf
 returns-3 c = rw (c .before .before .before .g3 .given .1, ← c .before .number-of .ensures) (c .packed2 .ensures)
+
+returns-4 : tie.Need-returns-4
+unfolding codeOf
+returns-4 c = rw (c .before .before .g4 .given .1) (c .z-code .ensures)
 
 pub code-spec : {M : Type 1} → statement M
 code-spec =
@@ -54,6 +64,9 @@ code-spec =
     number-of-requires
     add-packed
     packed-requires-2
+    enum-known-g-4
+    z-code-requires
     returns
     returns-2
-    returns-3)
+    returns-3
+    returns-4)

@@ -30,7 +30,26 @@ colour-of-requires-3 c κs = search needs
 
 returns-3 : tie.Need-returns-3
 unfolding gateOf gateOfKind
-returns-3 c = rw (c .colour-of3 .ensures, le-ltb _ _ (c .before .before .if1 .left), le-ltb _ _ (c .before .if2 .left))
+returns-3 c =
+    rw (
+      c .colour-of3 .ensures,
+      le-ltb _ _ (c .before .before .before .if1 .left),
+      le-ltb _ _ (c .before .before .if2 .left),
+      lt-ltb _ _ (c .before .if3 .taken),
+    )
+
+colour-of-requires-4 : tie.Need-colour-of-requires-4
+colour-of-requires-4 c κs = search needs
+
+returns-4 : tie.Need-returns-4
+unfolding gateOf gateOfKind
+returns-4 c =
+    rw (
+      c .colour-of4 .ensures,
+      le-ltb _ _ (c .before .before .before .if1 .left),
+      le-ltb _ _ (c .before .before .if2 .left),
+      le-ltb _ _ (c .before .if3 .left),
+    )
 
 pub gate-spec : {M : Type 1} → statement M
 gate-spec =
@@ -41,4 +60,6 @@ gate-spec =
     colour-of-requires-2
     returns-2
     colour-of-requires-3
-    returns-3)
+    returns-3
+    colour-of-requires-4
+    returns-4)

@@ -7,10 +7,10 @@ use Rattle.known.proofs.ask_layer.Statement.{statement}
 use Rattle.known.proofs.ask_layer.Tie as tie
 
 abbrev Inv-loop : tie.InvT-loop
-Inv-loop state history name gates line₀ at₀ i₀ t10 t11 line at i = (length line ≡ 1025) × (i ≤ gates)
+Inv-loop state history name part times line₀ at₀ i₀ t11 line at i = (length line ≡ 1025) × (i ≤ times)
 
 abbrev μ-loop : tie.MeasureT-loop
-μ-loop state history name gates line₀ at₀ i₀ t10 t11 line at i = gates - i
+μ-loop state history name part times line₀ at₀ i₀ t11 line at i = times - i
 
 slice-aggregate-put : tie.Need-slice-aggregate-put Inv-loop μ-loop
 slice-aggregate-put c = search needs
@@ -27,9 +27,6 @@ loop-holds c = search needs
 slice-aggregate-put-3 : tie.Need-slice-aggregate-put-3 Inv-loop μ-loop
 slice-aggregate-put-3 c = search needs
 
-slice-aggregate-put-4 : tie.Need-slice-aggregate-put-4 Inv-loop μ-loop
-slice-aggregate-put-4 c = search needs
-
 put-requires-2 : tie.Need-put-requires-2 Inv-loop μ-loop
 put-requires-2 c κs = search needs
 
@@ -42,11 +39,11 @@ loop-less c = search needs
 loop-again : tie.Need-loop-again Inv-loop μ-loop
 loop-again c = search needs
 
+slice-aggregate-put-4 : tie.Need-slice-aggregate-put-4 Inv-loop μ-loop
+slice-aggregate-put-4 c = search needs
+
 slice-aggregate-put-5 : tie.Need-slice-aggregate-put-5 Inv-loop μ-loop
 slice-aggregate-put-5 c = search needs
-
-slice-aggregate-put-6 : tie.Need-slice-aggregate-put-6 Inv-loop μ-loop
-slice-aggregate-put-6 c = search needs
 
 put-requires-3 : tie.Need-put-requires-3 Inv-loop μ-loop
 put-requires-3 c κs = search needs
@@ -77,13 +74,12 @@ ask-layer-spec =
     put-requires
     loop-holds
     slice-aggregate-put-3
-    slice-aggregate-put-4
     put-requires-2
     add-i
     loop-less
     loop-again
+    slice-aggregate-put-4
     slice-aggregate-put-5
-    slice-aggregate-put-6
     put-requires-3
     slice-aggregate-front
     front-requires

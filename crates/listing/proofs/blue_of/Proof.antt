@@ -22,7 +22,30 @@ add-result-2 c = search needs
 
 returns-3 : tie.Need-returns-3
 unfolding cellBlue
-returns-3 c = rw (le-ltb _ _ (c .before .if1 .left), le-ltb _ _ (c .if2 .left)) (omega arith)
+returns-3 c = rw (le-ltb _ _ (c .before .before .if1 .left), le-ltb _ _ (c .before .if2 .left), lt-ltb _ _ (c .if3 .taken)) (omega arith)
+
+returns-4 : tie.Need-returns-4
+unfolding cellBlue
+returns-4 c =
+    let past = c .before .before in
+    rw (le-ltb _ _ (past .before .if1 .left), le-ltb _ _ (past .if2 .left), le-ltb _ _ (c .before .if3 .left), lt-ltb _ _ (c .if4 .taken))
+
+add-result-3 : tie.Need-add-result-3
+add-result-3 c = search needs
+
+returns-5 : tie.Need-returns-5
+unfolding cellBlue
+returns-5 c =
+    let past = c .before .before in
+    rw (le-ltb _ _ (past .before .before .if1 .left), le-ltb _ _ (past .before .if2 .left), le-ltb _ _ (past .if3 .left))
+    (rw (le-ltb _ _ (c .before .if4 .left), lt-ltb _ _ (c .if5 .taken)) (omega arith))
+
+returns-6 : tie.Need-returns-6
+unfolding cellBlue
+returns-6 c =
+    let past = c .before .before in
+    rw (le-ltb _ _ (past .before .before .if1 .left), le-ltb _ _ (past .before .if2 .left), le-ltb _ _ (past .if3 .left))
+    (rw (le-ltb _ _ (c .before .if4 .left), le-ltb _ _ (c .if5 .left)))
 
 pub blue-of-spec : {M : Type 1} → statement M
-blue-of-spec = tie.close (tie.spec add-result returns returns-2 add-result-2 returns-3)
+blue-of-spec = tie.close (tie.spec add-result returns returns-2 add-result-2 returns-3 returns-4 add-result-3 returns-5 returns-6)

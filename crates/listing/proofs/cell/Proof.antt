@@ -10,19 +10,19 @@ red-of-requires : tie.Need-red-of-requires
 red-of-requires c κs = search needs
 
 mul-result : tie.Need-mul-result
-mul-result c = omega (arith, cell-index (c .before .args .n) (c .before .pre))
+mul-result c = omega (arith, cell-index (c .before .args .n))
 
 blue-of-requires : tie.Need-blue-of-requires
 blue-of-requires c κs = search needs
 
 add-result : tie.Need-add-result
-add-result c = omega (arith, cell-index (c .before .before .args .n) (c .before .before .pre))
+add-result c = omega (arith, cell-index (c .before .before .args .n))
 
 mul-result-2 : tie.Need-mul-result-2
-mul-result-2 c = omega (arith, cell-index (c .before .before .args .n) (c .before .before .pre))
+mul-result-2 c = omega (arith, cell-index (c .before .before .args .n))
 
 element-copy-out-result : tie.Need-element-copy-out-result
-element-copy-out-result c = omega (arith, cell-index (c .before .before .args .n) (c .before .before .pre))
+element-copy-out-result c = omega (arith, cell-index (c .before .before .args .n))
 
 mask-of-requires : tie.Need-mask-of-requires
 mask-of-requires c κs = search needs

@@ -11,10 +11,10 @@ use Rattle.listing.proofs.count.Statement.{statement}
 use Rattle.listing.proofs.count.Tie as tie
 
 abbrev Inv-loop : tie.InvT-loop
-Inv-loop words total₀ n₀ total n = (n ≤ 544) × (total ≤ 32 * n) × (total ≡ length (concatBelow n (cellTerms words)))
+Inv-loop words total₀ n₀ total n = (n ≤ 577) × (total ≤ 32 * n) × (total ≡ length (concatBelow n (cellTerms words)))
 
 abbrev μ-loop : tie.MeasureT-loop
-μ-loop words total₀ n₀ total n = 544 - n
+μ-loop words total₀ n₀ total n = 577 - n
 
 loop-holds : tie.Need-loop-holds Inv-loop μ-loop
 unfolding concatBelow

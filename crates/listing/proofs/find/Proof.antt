@@ -11,10 +11,10 @@ use Rattle.listing.proofs.find.Statement.{statement}
 use Rattle.listing.proofs.find.Tie as tie
 
 abbrev Inv-loop : tie.InvT-loop
-Inv-loop words n left₀ at₀ left at = (at ≤ 543) × (n ≡ length (concatBelow at (cellTerms words)) + left)
+Inv-loop words n left₀ at₀ left at = (at ≤ 576) × (n ≡ length (concatBelow at (cellTerms words)) + left)
 
 abbrev μ-loop : tie.MeasureT-loop
-μ-loop words n left₀ at₀ left at = 543 - at
+μ-loop words n left₀ at₀ left at = 576 - at
 
 loop-holds : tie.Need-loop-holds Inv-loop μ-loop
 unfolding concatBelow
@@ -27,11 +27,9 @@ cast-here : tie.Need-cast-here Inv-loop μ-loop
 cast-here c = omega (arith, ones-le 32 (c .cell .result) (omega arith))
 
 returns : tie.Need-returns Inv-loop μ-loop
-returns c = (
-  omega arith,
-  entry-inside (c .before .before .before .before .args .words .now) (c .before .before .before .before .args .n) (c .before .before .before .loop .at)
-      (c .before .before .before .loop .left) (omega arith) (c .before .before .before .loop .inv .1) (rw (c .before .cell .ensures) at (c .if1 .taken)),
-)
+returns c =
+    entry-inside (c .before .before .before .before .args .words .now) (c .before .before .before .before .args .n) (c .before .before .before .loop .at)
+    (c .before .before .before .loop .left) (omega arith) (c .before .before .before .loop .inv .1) (rw (c .before .cell .ensures) at (c .if1 .taken))
 
 add-at : tie.Need-add-at Inv-loop μ-loop
 add-at c = search needs
@@ -47,10 +45,8 @@ loop-again c = (
 
 returns-2 : tie.Need-returns-2 Inv-loop μ-loop
 returns-2 c =
-    let last : c .before .loop .at ≡ 543 = omega arith in (
-      omega arith,
-      rw last (entry-last (c .before .before .args .words .now) (c .before .before .args .n) (c .before .loop .left) (rw last at (c .before .loop .inv .1))),
-    )
+    let last : c .before .loop .at ≡ 576 = omega arith in
+    rw last (entry-last (c .before .before .args .words .now) (c .before .before .args .n) (c .before .loop .left) (rw last at (c .before .loop .inv .1)))
 
 pub find-spec : {M : Type 1} → statement M
 find-spec =

@@ -22,7 +22,22 @@ returns-2 c = rw (le-ltb _ _ (c .before .if1 .left), lt-ltb _ _ (c .if2 .taken))
 
 returns-3 : tie.Need-returns-3
 unfolding cellRed
-returns-3 c = rw (le-ltb _ _ (c .before .if1 .left), le-ltb _ _ (c .if2 .left))
+returns-3 c = rw (le-ltb _ _ (c .before .before .if1 .left), le-ltb _ _ (c .before .if2 .left), lt-ltb _ _ (c .if3 .taken))
+
+add-result-3 : tie.Need-add-result-3
+add-result-3 c = search needs
+
+returns-4 : tie.Need-returns-4
+unfolding cellRed
+returns-4 c =
+    let past = c .before .before in
+    rw (le-ltb _ _ (past .before .if1 .left), le-ltb _ _ (past .if2 .left), le-ltb _ _ (c .before .if3 .left), lt-ltb _ _ (c .if4 .taken)) (omega arith)
+
+returns-5 : tie.Need-returns-5
+unfolding cellRed
+returns-5 c =
+    let past = c .before .before in
+    rw (le-ltb _ _ (past .before .if1 .left), le-ltb _ _ (past .if2 .left), le-ltb _ _ (c .before .if3 .left), le-ltb _ _ (c .if4 .left))
 
 pub red-of-spec : {M : Type 1} → statement M
-red-of-spec = tie.close (tie.spec add-result returns add-result-2 returns-2 returns-3)
+red-of-spec = tie.close (tie.spec add-result returns add-result-2 returns-2 returns-3 add-result-3 returns-4 returns-5)

@@ -4,7 +4,7 @@ use borrow.Author.Tests.{not-true, not-false}
 use Rattle.circuit.specs.Sum.{isGate}
 use Rattle.circuit.specs.Polynomial.{applied}
 use Rattle.polynomial.specs.Words.{taken}
-use Rattle.circuit.proofs.Gates.{ccz-positions, cz-positions, cnot-positions}
+use Rattle.circuit.proofs.Gates.{ccz-positions, cz-positions, cnot-positions, z-position}
 use borrow.Author.Needs.{needs}
 use Rattle.polynomial.proofs.apply.Statement.{statement}
 use Rattle.polynomial.proofs.apply.Tie as tie
@@ -43,6 +43,15 @@ cnot-requires c κs =
     cnot-positions 16 (c .before .g3 .given .0 .0) (c .before .g3 .given .0 .1 .0) (c .before .g3 .given .0 .1 .1 .0)
     (ap (isGate 16) (sym (c .before .g3 .given .1)) ∙ sym (tested .is-gate .ensures) ∙ not-false _ (c .before .before .before .if1 .left))
 
+enum-known-g-4 : tie.Need-enum-known-g-4
+enum-known-g-4 c = search needs
+
+toggle-alone-requires : tie.Need-toggle-alone-requires
+toggle-alone-requires c κs =
+    let tested = c .before .before .before .before in
+    z-position 16 (c .before .g4 .given .0 .0)
+    (ap (isGate 16) (sym (c .before .g4 .given .1)) ∙ sym (tested .is-gate .ensures) ∙ not-false _ (c .before .before .before .if1 .left))
+
 returns-2 : tie.Need-returns-2
 unfolding taken applied
 returns-2 c = λ f e.
@@ -70,6 +79,15 @@ returns-4 c = λ f e.
     )
     (c .cnot .ensures f e)
 
+returns-5 : tie.Need-returns-5
+unfolding taken applied
+returns-5 c = λ f e.
+    rw (
+      sym (c .before .before .before .before .before .is-gate .ensures) ∙ not-false _ (c .before .before .before .before .if1 .left),
+      c .before .before .g4 .given .1,
+    )
+    (c .toggle-alone .ensures f e)
+
 pub apply-spec : {M : Type 1} → statement M
 apply-spec =
     tie.close
@@ -82,6 +100,9 @@ apply-spec =
     toggle-pair-requires
     enum-known-g-3
     cnot-requires
+    enum-known-g-4
+    toggle-alone-requires
     returns-2
     returns-3
-    returns-4)
+    returns-4
+    returns-5)

@@ -1,6 +1,6 @@
 -- The tests ask in turn what `pair` put last and what it put first.
 use mathlib.Core.Path.{sym, _∙_}
-use Rattle.circuit.specs.Polynomial.{pair}
+use Rattle.circuit.specs.Polynomial.{alone, pair}
 use Rattle.circuit.proofs.Colours.{the-put}
 use Rattle.polynomial.proofs.Terms.{no-index}
 use borrow.Author.Needs.{needs}
@@ -11,14 +11,14 @@ same-colour-requires : tie.Need-same-colour-requires
 same-colour-requires c κs = search needs
 
 returns : tie.Need-returns
-unfolding pair
+unfolding pair alone
 returns c = rw (the-put, sym (c .before .same-colour .ensures) ∙ c .if1 .taken)
 
 same-colour-requires-2 : tie.Need-same-colour-requires-2
 same-colour-requires-2 c κs = search needs
 
 returns-2 : tie.Need-returns-2
-unfolding pair
+unfolding pair alone
 returns-2 c =
     rw (
       the-put,
@@ -28,7 +28,7 @@ returns-2 c =
     )
 
 returns-3 : tie.Need-returns-3
-unfolding pair
+unfolding pair alone
 returns-3 c =
     rw (
       the-put,

@@ -17,7 +17,7 @@ Inv-loop state out₀ answer₀ after₀ number₀ out answer after number =
     × ListedInto state out₀ after₀ (number - 1) out after × FailureKept after₀ after
 
 abbrev μ-loop : tie.MeasureT-loop
-μ-loop state out₀ answer₀ after₀ number₀ out answer after number = 4865 - number
+μ-loop state out₀ answer₀ after₀ number₀ out answer after number = 4913 - number
 
 loop-holds : tie.Need-loop-holds Inv-loop μ-loop
 loop-holds c = (refl, search needs, omega arith, none-listed _ _ _, λ e h held big. nothing-into _, λ failed. failed)

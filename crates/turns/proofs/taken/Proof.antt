@@ -1,6 +1,6 @@
 -- Each form is taken by its own stage; what a stage asks is known where no place turned the line back.
 use Rattle.forms.proofs.HeldForms.{never-refused}
-use Rattle.turns.proofs.TurnTaken.{circuit-taken, ccz-taken, cz-taken, cnot-taken, layer-taken, undo-taken, start-taken, amplitude-taken, readout-taken, one-colour-taken, step-taken, drop-taken, terms-taken, held-told}
+use Rattle.turns.proofs.TurnTaken.{circuit-taken, ccz-taken, cz-taken, cnot-taken, z-taken, layer-taken, undo-taken, start-taken, amplitude-taken, readout-taken, one-colour-taken, step-taken, drop-taken, terms-taken, held-told}
 use borrow.Author.Needs.{needs}
 use Rattle.turns.proofs.taken.Statement.{statement}
 use Rattle.turns.proofs.taken.Tie as tie
@@ -32,59 +32,65 @@ cnot-turn-requires c κs = search needs
 enum-told-5 : tie.Need-enum-told-5
 enum-told-5 c = search needs
 
-layer-turn-requires : tie.Need-layer-turn-requires
-layer-turn-requires c κs = search needs
+z-turn-requires : tie.Need-z-turn-requires
+z-turn-requires c κs = search needs
 
 enum-told-6 : tie.Need-enum-told-6
 enum-told-6 c = search needs
 
-undo-turn-requires : tie.Need-undo-turn-requires
-undo-turn-requires c κs = search needs
+layer-turn-requires : tie.Need-layer-turn-requires
+layer-turn-requires c κs = search needs
 
 enum-told-7 : tie.Need-enum-told-7
 enum-told-7 c = search needs
 
-start-turn-requires : tie.Need-start-turn-requires
-start-turn-requires c κs = search needs
+undo-turn-requires : tie.Need-undo-turn-requires
+undo-turn-requires c κs = search needs
 
 enum-told-8 : tie.Need-enum-told-8
 enum-told-8 c = search needs
 
-amplitude-turn-requires : tie.Need-amplitude-turn-requires
-amplitude-turn-requires c κs = search needs
+start-turn-requires : tie.Need-start-turn-requires
+start-turn-requires c κs = search needs
 
 enum-told-9 : tie.Need-enum-told-9
 enum-told-9 c = search needs
 
-readout-turn-requires : tie.Need-readout-turn-requires
-readout-turn-requires c κs = search needs
+amplitude-turn-requires : tie.Need-amplitude-turn-requires
+amplitude-turn-requires c κs = search needs
 
 enum-told-10 : tie.Need-enum-told-10
 enum-told-10 c = search needs
 
-one-colour-turn-requires : tie.Need-one-colour-turn-requires
-one-colour-turn-requires c κs = search needs
+readout-turn-requires : tie.Need-readout-turn-requires
+readout-turn-requires c κs = search needs
 
 enum-told-11 : tie.Need-enum-told-11
 enum-told-11 c = search needs
 
-step-turn-requires : tie.Need-step-turn-requires
-step-turn-requires c κs = search needs
+one-colour-turn-requires : tie.Need-one-colour-turn-requires
+one-colour-turn-requires c κs = search needs
 
 enum-told-12 : tie.Need-enum-told-12
 enum-told-12 c = search needs
 
-drop-turn-requires : tie.Need-drop-turn-requires
-drop-turn-requires c κs = search needs
+step-turn-requires : tie.Need-step-turn-requires
+step-turn-requires c κs = search needs
 
 enum-told-13 : tie.Need-enum-told-13
 enum-told-13 c = search needs
 
-terms-turn-requires : tie.Need-terms-turn-requires
-terms-turn-requires c κs = search needs
+drop-turn-requires : tie.Need-drop-turn-requires
+drop-turn-requires c κs = search needs
 
 enum-told-14 : tie.Need-enum-told-14
 enum-told-14 c = search needs
+
+terms-turn-requires : tie.Need-terms-turn-requires
+terms-turn-requires c κs = search needs
+
+enum-told-15 : tie.Need-enum-told-15
+enum-told-15 c = search needs
 
 turned-back-requires : tie.Need-turned-back-requires
 turned-back-requires c κs = search needs
@@ -117,60 +123,66 @@ returns-5 : tie.Need-returns-5
 returns-5 c k o t is f =
     let start = c .before .before .before .before .before .before .before .before in
     let told = c .before .before .before .before .enum-told5 .given .1 in
-    layer-taken k o _ _ _ _ _ _ (held-told _ _ _ t (start .pre) is told) is f (c .before .before .layer-turn .ensures .0 _ told)
+    z-taken k o _ _ _ _ _ _ (held-told _ _ _ t (start .pre) is told) is f (c .before .before .z-turn .ensures .0 _ told)
 
 returns-6 : tie.Need-returns-6
 returns-6 c k o t is f =
-    let start = c .before .before .before .before .before .before in
-    let told = c .before .before .enum-told6 .given .1 in
-    undo-taken k o _ _ _ _ (held-told _ _ _ t (start .pre) is told) f (c .undo-turn .ensures .0 _ told)
+    let start = c .before .before .before .before .before .before .before .before in
+    let told = c .before .before .before .before .enum-told6 .given .1 in
+    layer-taken k o _ _ _ _ _ _ (held-told _ _ _ t (start .pre) is told) is f (c .before .before .layer-turn .ensures .0 _ told)
 
 returns-7 : tie.Need-returns-7
 returns-7 c k o t is f =
     let start = c .before .before .before .before .before .before in
     let told = c .before .before .enum-told7 .given .1 in
-    start-taken k o _ _ _ _ (held-told _ _ _ t (start .pre) is told) f (λ s₀. c .start-turn .ensures .0 _ _ _ s₀ told)
+    undo-taken k o _ _ _ _ (held-told _ _ _ t (start .pre) is told) f (c .undo-turn .ensures .0 _ told)
 
 returns-8 : tie.Need-returns-8
 returns-8 c k o t is f =
-    let start = c .before .before .before .before .before in
-    let told = c .before .enum-told8 .given .1 in
-    amplitude-taken k o _ _ _ _ (held-told _ _ _ t (start .pre) is told) f (c .amplitude-turn .ensures .0 _ _ _ _ told)
+    let start = c .before .before .before .before .before .before in
+    let told = c .before .before .enum-told8 .given .1 in
+    start-taken k o _ _ _ _ (held-told _ _ _ t (start .pre) is told) f (λ s₀. c .start-turn .ensures .0 _ _ _ s₀ told)
 
 returns-9 : tie.Need-returns-9
 returns-9 c k o t is f =
     let start = c .before .before .before .before .before in
     let told = c .before .enum-told9 .given .1 in
-    readout-taken k o _ _ _ _ (held-told _ _ _ t (start .pre) is told) f (c .readout-turn .ensures .0 _ _ _ told)
+    amplitude-taken k o _ _ _ _ (held-told _ _ _ t (start .pre) is told) f (c .amplitude-turn .ensures .0 _ _ _ _ told)
 
 returns-10 : tie.Need-returns-10
 returns-10 c k o t is f =
     let start = c .before .before .before .before .before in
     let told = c .before .enum-told10 .given .1 in
-    one-colour-taken k o _ _ _ _ (held-told _ _ _ t (start .pre) is told) f (c .one-colour-turn .ensures .0 _ _ told)
+    readout-taken k o _ _ _ _ (held-told _ _ _ t (start .pre) is told) f (c .readout-turn .ensures .0 _ _ _ told)
 
 returns-11 : tie.Need-returns-11
 returns-11 c k o t is f =
     let start = c .before .before .before .before .before in
     let told = c .before .enum-told11 .given .1 in
-    step-taken k o _ _ _ _ (held-told _ _ _ t (start .pre) is told) f (c .step-turn .ensures .0 _ told)
+    one-colour-taken k o _ _ _ _ (held-told _ _ _ t (start .pre) is told) f (c .one-colour-turn .ensures .0 _ _ told)
 
 returns-12 : tie.Need-returns-12
 returns-12 c k o t is f =
     let start = c .before .before .before .before .before in
     let told = c .before .enum-told12 .given .1 in
-    drop-taken k o _ _ _ _ (held-told _ _ _ t (start .pre) is told) f (c .drop-turn .ensures .0 told)
+    step-taken k o _ _ _ _ (held-told _ _ _ t (start .pre) is told) f (c .step-turn .ensures .0 _ told)
 
 returns-13 : tie.Need-returns-13
 returns-13 c k o t is f =
     let start = c .before .before .before .before .before in
     let told = c .before .enum-told13 .given .1 in
-    terms-taken k o _ _ _ _ (held-told _ _ _ t (start .pre) is told) f (c .terms-turn .ensures .0 told)
+    drop-taken k o _ _ _ _ (held-told _ _ _ t (start .pre) is told) f (c .drop-turn .ensures .0 told)
 
 returns-14 : tie.Need-returns-14
 returns-14 c k o t is f =
     let start = c .before .before .before .before .before in
     let told = c .before .enum-told14 .given .1 in
+    terms-taken k o _ _ _ _ (held-told _ _ _ t (start .pre) is told) f (c .terms-turn .ensures .0 told)
+
+returns-15 : tie.Need-returns-15
+returns-15 c k o t is f =
+    let start = c .before .before .before .before .before in
+    let told = c .before .enum-told15 .given .1 in
     absurd (never-refused (held-told _ _ _ t (start .pre) is told))
 
 same-length : tie.Need-same-length
@@ -191,6 +203,9 @@ same-length-5 c = search needs
 same-length-6 : tie.Need-same-length-6
 same-length-6 c = search needs
 
+same-length-7 : tie.Need-same-length-7
+same-length-7 c = search needs
+
 pub taken-spec : {M : Type 1} → statement M
 taken-spec =
     tie.close
@@ -204,24 +219,26 @@ taken-spec =
     enum-told-4
     cnot-turn-requires
     enum-told-5
-    layer-turn-requires
+    z-turn-requires
     enum-told-6
-    undo-turn-requires
+    layer-turn-requires
     enum-told-7
-    start-turn-requires
+    undo-turn-requires
     enum-told-8
-    amplitude-turn-requires
+    start-turn-requires
     enum-told-9
-    readout-turn-requires
+    amplitude-turn-requires
     enum-told-10
-    one-colour-turn-requires
+    readout-turn-requires
     enum-told-11
-    step-turn-requires
+    one-colour-turn-requires
     enum-told-12
-    drop-turn-requires
+    step-turn-requires
     enum-told-13
-    terms-turn-requires
+    drop-turn-requires
     enum-told-14
+    terms-turn-requires
+    enum-told-15
     turned-back-requires
     returns
     same-length
@@ -236,10 +253,12 @@ taken-spec =
     returns-6
     same-length-6
     returns-7
+    same-length-7
     returns-8
     returns-9
     returns-10
     returns-11
     returns-12
     returns-13
-    returns-14)
+    returns-14
+    returns-15)

@@ -26,6 +26,9 @@ over-cnot-requires c κs =
     let tested = c .before .before .before .before in
     rw (← c .before .g .given .1) (sym (tested .is-gate .ensures) ∙ not-false _ (c .before .before .before .if1 .left))
 
+enum-told-3 : tie.Need-enum-told-3
+enum-told-3 c = search needs
+
 returns-2 : tie.Need-returns-2
 unfolding carriedOver
 returns-2 c t is long few =
@@ -42,6 +45,11 @@ returns-4 c t is long few =
     rw (sym (tested .is-gate .ensures) ∙ not-false _ (c .before .before .before .before .if1 .left), c .before .before .g .given .1)
     (c .over-cnot .ensures t is long few)
 
+returns-5 : tie.Need-returns-5
+unfolding carriedOver
+returns-5 c t is long few =
+    rw (sym (c .before .before .before .is-gate .ensures) ∙ not-false _ (c .before .before .if1 .left), c .enum-told3 .given .1) is
+
 pub over-gate-spec : {M : Type 1} → statement M
 over-gate-spec =
     tie.close
@@ -52,6 +60,8 @@ over-gate-spec =
     enum-told-2
     enum-known-g
     over-cnot-requires
+    enum-told-3
     returns-2
     returns-3
-    returns-4)
+    returns-4
+    returns-5)

@@ -26,6 +26,12 @@ enum-known-g-3 c = search needs
 both-positions-requires-3 : tie.Need-both-positions-requires-3
 both-positions-requires-3 c κs = search needs
 
+enum-known-g-4 : tie.Need-enum-known-g-4
+enum-known-g-4 c = search needs
+
+is-position-requires-2 : tie.Need-is-position-requires-2
+is-position-requires-2 c κs = search needs
+
 returns : tie.Need-returns
 unfolding inRange
 returns c =
@@ -44,6 +50,10 @@ returns-4 : tie.Need-returns-4
 unfolding inRange
 returns-4 c = rw (c .before .before .g3 .given .1) (c .both-positions3 .ensures)
 
+returns-5 : tie.Need-returns-5
+unfolding inRange
+returns-5 c = rw (c .before .before .g4 .given .1) (c .is-position2 .ensures)
+
 pub in-range-spec : {M : Type 1} → statement M
 in-range-spec =
     tie.close
@@ -55,7 +65,10 @@ in-range-spec =
     both-positions-requires-2
     enum-known-g-3
     both-positions-requires-3
+    enum-known-g-4
+    is-position-requires-2
     returns
     returns-2
     returns-3
-    returns-4)
+    returns-4
+    returns-5)

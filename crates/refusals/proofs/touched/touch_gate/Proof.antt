@@ -43,6 +43,13 @@ touch-requires-7 : tie.Need-touch-requires-7
 unfolding touches spot
 touch-requires-7 c κs = (rw (c .before .before .g3 .given .1) at (c .before .before .before .before .pre)) .1 .0 .1
 
+enum-known-g-4 : tie.Need-enum-known-g-4
+enum-known-g-4 c = search needs
+
+touch-requires-8 : tie.Need-touch-requires-8
+unfolding touches
+touch-requires-8 c κs = (rw (c .before .g4 .given .1) at (c .before .before .before .pre)) .0 .1
+
 returns : tie.Need-returns
 unfolding touches touchingAll
 returns c = rw (c .before .before .before .before .g .given .1) (c .touch3 .ensures ∙ rw (c .before .touch2 .ensures, c .before .before .touch .ensures))
@@ -54,6 +61,10 @@ returns-2 c = rw (c .before .before .before .g2 .given .1) (c .touch5 .ensures �
 returns-3 : tie.Need-returns-3
 unfolding touches touchingAll
 returns-3 c = rw (c .before .before .before .g3 .given .1) (c .touch7 .ensures ∙ rw (c .before .touch6 .ensures))
+
+returns-4 : tie.Need-returns-4
+unfolding touches touchingAll spot
+returns-4 c = rw (c .before .before .g4 .given .1) (c .touch8 .ensures)
 
 pub touch-gate-spec : {M : Type 1} → statement M
 touch-gate-spec =
@@ -69,6 +80,9 @@ touch-gate-spec =
     enum-known-g-3
     touch-requires-6
     touch-requires-7
+    enum-known-g-4
+    touch-requires-8
     returns
     returns-2
-    returns-3)
+    returns-3
+    returns-4)
