@@ -6,7 +6,7 @@ use native.Mathlib.Omega.{arith}
 use Rattle.circuit.specs.declared.Colour.{Colour}
 use Rattle.circuit.specs.declared.Colour.the-variants.{Red, Blue, Green}
 use Rattle.circuit.specs.declared.Spot.{Spot}
-use Rattle.circuit.specs.Colours.{sameColour, the}
+use Rattle.circuit.specs.Colours.{sameColour, the, first, second, join, put}
 use Rattle.circuit.specs.Polynomial.{Term, term, alone, pair}
 use Rattle.circuit.proofs.Colours.{the-put}
 
@@ -31,3 +31,13 @@ pair-index-le n p q hp hq C =
     one true b = hp
     one false true = hq
     one false false = omega arith
+
+-- The pair of a position with itself is the term of that position alone.
+pub pair-alone : (p : Spot) → pair p p ≡ alone p
+unfolding pair alone put join first second
+pair-alone p = put-put (p .colour) (p .position) (p .position) (term 0 0 0)
+  where
+    put-put : (C : Colour) (a b : ℕ) (h : Term) → put C a (put C b h) ≡ put C a h
+    put-put Red a b h = refl
+    put-put Blue a b h = refl
+    put-put Green a b h = refl

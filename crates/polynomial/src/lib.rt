@@ -2,7 +2,7 @@
 // for a colour that the term has no position of.
 ghost use mathlib.Core.Path.{_≡_};
 ghost use Rattle.circuit.specs.Colours.{the};
-ghost use Rattle.circuit.specs.Polynomial.{Polynomial, term, alone, pair, empty, toggled, substituted};
+ghost use Rattle.circuit.specs.Polynomial.{Polynomial, term, pair, empty, toggled, substituted};
 ghost use Rattle.polynomial.specs.Words.{wordsOf, taken};
 ghost use Prim.Native.Nat.{_≤_};
 use circuit::Colour;
@@ -52,18 +52,6 @@ fn toggle_pair(words: [u32; WORDS], p: Spot, q: Spot) -> [u32; WORDS]
     let j = index_in(Colour::Blue, p, q);
     let k = index_in(Colour::Green, p, q);
     toggle(words, i, j, k)
-}
-
-fn toggle_alone(words: [u32; WORDS], p: Spot) -> [u32; WORDS]
-    requires { ⌜ p .position ≤ 16 ⌝ }
-    ensures { λ r. ⌜ ((f : Polynomial) → words ≡ wordsOf f → r ≡ wordsOf (toggled (alone p) f)) ⌝ }
-{
-    let colour = p.colour;
-    match colour {
-        Colour::Red => toggle(words, p.position, 0, 0),
-        Colour::Blue => toggle(words, 0, p.position, 0),
-        Colour::Green => toggle(words, 0, 0, p.position),
-    }
 }
 
 // A row of words added to another: the terms with red index `t` again with `c`.
@@ -131,6 +119,7 @@ pub fn apply(words: [u32; WORDS], g: Gate) -> [u32; WORDS]
         Gate::Ccz(i, j, k) => toggle(words, i, j, k),
         Gate::Cz(p, q) => toggle_pair(words, p, q),
         Gate::Cnot(colour, c, t) => cnot(words, colour, c, t),
-        Gate::Z(p) => toggle_alone(words, p),
+        // The pair of a position with itself is that position alone.
+        Gate::Z(p) => toggle_pair(words, p, p),
     }
 }

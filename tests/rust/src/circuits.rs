@@ -1,6 +1,6 @@
 //! Circuits that the examples, the checks and the benchmark are made of.
 
-use crate::gates::{COLOURS, Colour, Gate, cnot, cz};
+use crate::gates::{COLOURS, Colour, Gate, cnot, cz, z};
 use crate::random::Random;
 
 /// Position p of every colour as one block (001, section I.B): a gate list for each block, as one layer.
@@ -25,15 +25,20 @@ fn along(direction: usize, m: usize) -> Vec<Gate> {
     controls.flat_map(cnots).collect()
 }
 
-/// The circuit of source document 001 on 2^k blocks of three: k + 1 stages of CCZ and CZ inside the blocks, a CNOT layer along one
-/// direction of the cube between two of them. Document 01 has no Z gate.
+/// The circuit of source document 001 on 2^k blocks of three: k + 1 stages of CCZ, CZ and Z inside the blocks, a CNOT
+/// layer along one direction of the cube between two of them. Its text does not say which CZ and Z a stage has. Here
+/// every block has a CZ on two colours, all pairs in turn, and a Z on the third: they touch each position once and are
+/// fired in one layer.
 pub fn hypercube(k: usize) -> Vec<Vec<Gate>> {
     let m = 1 << k;
     let mut layers = Vec::new();
     for stage in 0..=k {
-        let [first, second] = COLOURS[stage % 3].others();
+        let alone = COLOURS[stage % 3];
+        let [first, second] = alone.others();
         layers.push(in_blocks(m, block_ccz));
-        layers.push(in_blocks(m, |block| cz(first, block, second, block)));
+        let pairs = in_blocks(m, |block| cz(first, block, second, block));
+        let singles = in_blocks(m, |block| z(alone, block));
+        layers.push([pairs, singles].concat());
         if stage < k {
             layers.push(along(stage, m));
         }
@@ -62,7 +67,7 @@ pub fn full_rank(m: usize, seed: u64) -> Vec<Vec<Gate>> {
 }
 
 /// A layer that touches every position once, by gates that touch two: each CNOT and each CZ on four blocks. m is a
-/// multiple of 4; at 16 there are 24 gates, and no layer that can be fired has more.
+/// multiple of 4; at 16 there are 24 gates, and no layer without Z that can be fired has more.
 pub fn every_position(m: usize) -> Vec<Gate> {
     let [red, blue, green] = COLOURS;
     let on_four = |p: usize| {
@@ -78,7 +83,14 @@ pub fn every_position(m: usize) -> Vec<Gate> {
     (1..=m).step_by(4).flat_map(on_four).collect()
 }
 
-/// A circuit whose phase polynomial has every term there is, 4,864 of them at m = 16: one product of each kind on
+/// A layer that touches every position once, by a Z on each, colour after colour: at m = 16 there are 48 gates, and no
+/// layer has more.
+pub fn every_z(m: usize) -> Vec<Gate> {
+    let on_all = |colour: Colour| in_blocks(m, |p| z(colour, p));
+    COLOURS.into_iter().flat_map(on_all).collect()
+}
+
+/// A circuit whose phase polynomial has every term there is, 4,912 of them at m = 16: one product of each kind on
 /// position 1, then every position 1 replaced by the sum of all positions of its colour.
 pub fn every_term(m: usize) -> Vec<Gate> {
     let products = COLOURS.map(|colour| {
@@ -88,6 +100,7 @@ pub fn every_term(m: usize) -> Vec<Gate> {
     let added = |control: usize| COLOURS.map(|colour| cnot(colour, control, 1));
     let mut gates = vec![block_ccz(1)];
     gates.extend(products);
+    gates.extend(COLOURS.map(|colour| z(colour, 1)));
     gates.extend((2..=m).flat_map(added));
     gates
 }

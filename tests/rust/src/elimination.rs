@@ -1,10 +1,10 @@
 //! Sums by slices for circuits that are too large for the full sum, after source document 000, equation 2.
 //!
 //! The polynomial is not built by the rule of document 01 for CNOT. The gates are gone through from the last to the first, with
-//! every position's bit written as a sum of bits of the final string; a CCZ or CZ then is a product of such sums. Before
-//! the first gate stand the signs of the starting string, each a sum of such bits.
+//! every position's bit written as a sum of bits of the final string; a CCZ or CZ then is a product of such sums, and a
+//! Z is one of them. Before the first gate stand the signs of the starting string, each a sum of such bits.
 
-use crate::gates::{Colour, Gate, Strings, cz};
+use crate::gates::{COLOURS, Colour, Gate, Spot, Strings, cz, spot, z};
 
 /// One more than the number of positions of the largest circuit. Index 0 stands for "no position of this colour".
 const INDICES: usize = 17;
@@ -17,6 +17,15 @@ pub struct Polynomial {
 
 fn ones(word: u32) -> impl Iterator<Item = usize> {
     (0..32).filter(move |place| word >> place & 1 == 1)
+}
+
+/// The indices of the term of some positions, one of a colour at most.
+fn indices(spots: &[Spot]) -> [usize; 3] {
+    let mut indices = [0; 3];
+    for spot in spots {
+        indices[spot.colour.number()] = spot.position;
+    }
+    indices
 }
 
 impl Polynomial {
@@ -39,12 +48,8 @@ impl Polynomial {
         for gate in gates.iter().rev() {
             match *gate {
                 Gate::Ccz { red, blue, green } => polynomial.add(&forms, [red, blue, green]),
-                Gate::Cz(first, second) => {
-                    let mut indices = [0; 3];
-                    indices[first.colour.number()] = first.position;
-                    indices[second.colour.number()] = second.position;
-                    polynomial.add(&forms, indices);
-                }
+                Gate::Cz(first, second) => polynomial.add(&forms, indices(&[first, second])),
+                Gate::Z(turned) => polynomial.add(&forms, indices(&[turned])),
                 Gate::Cnot {
                     colour,
                     control,
@@ -55,11 +60,9 @@ impl Polynomial {
                 }
             }
         }
-        for (colour, string) in start.into_iter().enumerate() {
+        for (colour, string) in COLOURS.into_iter().zip(start) {
             for place in ones(string) {
-                let mut indices = [0; 3];
-                indices[colour] = place + 1;
-                polynomial.add(&forms, indices);
+                polynomial.add(&forms, indices(&[spot(colour, place + 1)]));
             }
         }
         polynomial
@@ -78,8 +81,8 @@ impl Polynomial {
         self.words[indices[0]][indices[1]] >> indices[2] & 1 == 1
     }
 
-    /// CCZ terms by red, blue and green position, then CZ terms red-blue, red-green and blue-green. What the start has
-    /// added are terms of one position, and they are not listed.
+    /// CCZ terms by red, blue and green position, then CZ terms red-blue, red-green and blue-green, then Z terms. What
+    /// a start other than zeros has added are Z terms too: what `terms` lists are those of the gates alone.
     pub fn terms(&self) -> Vec<Gate> {
         let mut terms = Vec::new();
         for red in 1..=self.m {
@@ -91,14 +94,15 @@ impl Polynomial {
         for [first, second] in [Colour::Green, Colour::Blue, Colour::Red].map(Colour::others) {
             for i in 1..=self.m {
                 for j in 1..=self.m {
-                    let mut indices = [0; 3];
-                    indices[first.number()] = i;
-                    indices[second.number()] = j;
-                    if self.has(indices) {
+                    if self.has(indices(&[spot(first, i), spot(second, j)])) {
                         terms.push(cz(first, i, second, j));
                     }
                 }
             }
+        }
+        for colour in COLOURS {
+            let present = |&p: &usize| self.has(indices(&[spot(colour, p)]));
+            terms.extend((1..=self.m).filter(present).map(|p| z(colour, p)));
         }
         terms
     }

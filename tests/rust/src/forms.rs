@@ -1,5 +1,5 @@
-//! A line taken apart as one of the twelve forms of document 01 or as `one` of document 02. The line is first read as
-//! nested brackets with items one space apart, then the items are matched.
+//! A line taken apart as one of the twelve forms of document 01, or as `one` or `z` of document 02. The line is first
+//! read as nested brackets with items one space apart, then the items are matched.
 
 use crate::gates::{Colour, Gate, Spot};
 
@@ -90,6 +90,7 @@ fn gate(item: &Item) -> Option<Gate> {
             control: number(control)?,
             target: number(target)?,
         }),
+        [Word("z"), turned] => Some(Gate::Z(spot(turned)?)),
         _ => None,
     }
 }

@@ -1,4 +1,4 @@
-//! Colours, gates and strings in the words of document 01, and their spelling in a line.
+//! Colours, gates and strings in the words of documents 01 and 02, and their spelling in a line.
 
 use std::cmp::Reverse;
 use std::fmt;
@@ -75,6 +75,7 @@ pub enum Gate {
         control: usize,
         target: usize,
     },
+    Z(Spot),
 }
 
 impl Gate {
@@ -92,6 +93,7 @@ impl Gate {
                 control,
                 target,
             } => vec![spot(colour, control), spot(colour, target)],
+            Gate::Z(spot) => vec![spot],
         }
     }
 
@@ -109,6 +111,7 @@ impl Gate {
                 control,
                 target,
             } => cnot(colour, to(spot(colour, control)), to(spot(colour, target))),
+            Gate::Z(spot) => z(spot.colour, to(spot)),
         }
     }
 
@@ -120,7 +123,7 @@ impl Gate {
         }
     }
 
-    /// The term of a CCZ or CZ as it is listed: "colours written in the order r, b, g" (02, request d).
+    /// The term of a CCZ, CZ or Z as it is listed: "colours written in the order r, b, g" (02, request d).
     pub fn listed(self) -> Gate {
         match self {
             Gate::Cz(first, second) if second.colour < first.colour => self.turned(),
@@ -128,9 +131,9 @@ impl Gate {
         }
     }
 
-    /// What a term is placed by in a listing, compared from the left (02, request d): its kind, CCZ with three
-    /// positions before CZ with two; its colours as listed, which puts CZ in the order red-blue, red-green, blue-green;
-    /// its positions as listed.
+    /// What a term is placed by in a listing, compared from the left (02, requests d and f): its kind, CCZ with three
+    /// positions before CZ with two before Z with one; its colours as listed, which puts CZ in the order red-blue,
+    /// red-green, blue-green; its positions as listed.
     pub fn listing_key(self) -> impl Ord {
         let spots = self.listed().spots();
         let kind = Reverse(spots.len());
@@ -150,6 +153,7 @@ impl fmt::Display for Gate {
                 control,
                 target,
             } => write!(f, "(cnot {colour} {control} {target})"),
+            Gate::Z(spot) => write!(f, "(z {spot})"),
         }
     }
 }
@@ -164,6 +168,10 @@ pub fn cnot(colour: Colour, control: usize, target: usize) -> Gate {
         control,
         target,
     }
+}
+
+pub fn z(colour: Colour, position: usize) -> Gate {
+    Gate::Z(spot(colour, position))
 }
 
 /// One bit to every position of every colour: bit p - 1 of a word is position p of that colour.

@@ -25,7 +25,8 @@ pub fn touches_twice(gates: &[Gate]) -> bool {
 }
 
 /// The gates in their order, cut into layers that can be fired: a new one begins where the next gate touches a position
-/// of the one before. Every gate touches at least two of 48 positions, so no layer has more than 24 gates or 500 bytes.
+/// of the one before. Every gate touches at least one of 48 positions, so no layer has more than 48 gates, as many as a
+/// line may have, and 48 Z gates are 508 bytes.
 pub fn layers(gates: &[Gate]) -> Vec<Vec<Gate>> {
     let mut layers: Vec<Vec<Gate>> = Vec::new();
     for &gate in gates {

@@ -46,7 +46,7 @@ impl fmt::Display for Answer {
     }
 }
 
-/// The answer to `terms`, for terms in any order: they are listed in that of document 02, request d.
+/// The answer to `terms`, for terms in any order: they are listed in that of document 02, requests d and f.
 pub fn listing(terms: &[Gate]) -> Answer {
     let mut terms: Vec<Gate> = terms.iter().map(|term| term.listed()).collect();
     terms.sort_by_cached_key(|term| term.listing_key());
@@ -76,6 +76,11 @@ impl Circuit {
 
     pub fn polynomial(&self) -> Polynomial {
         Polynomial::started(self.m, self.start, &self.gates)
+    }
+
+    /// The terms that `terms` lists: those of the gates, whatever the start.
+    pub fn terms(&self) -> Vec<Gate> {
+        Polynomial::of(self.m, &self.gates).terms()
     }
 
     /// S at an output string.
@@ -257,7 +262,7 @@ impl Model {
             Form::Undo(k) => circuit.gates.truncate(circuit.gates.len() - k),
             Form::Start(strings) => circuit.start = strings.each_ref().map(|s| word(s)),
             Form::Drop => self.sum = None,
-            Form::Terms => return listing(&Polynomial::of(circuit.m, &circuit.gates).terms()),
+            Form::Terms => return listing(&circuit.terms()),
             Form::Amp(sliced, strings) => {
                 let output = strings.each_ref().map(|s| word(s));
                 return self.open(Asked::Amplitude { sliced }, output);

@@ -1,6 +1,6 @@
 //! Random numbers, gates and strings from a seed (SplitMix64).
 
-use crate::gates::{COLOURS, Colour, Gate, Strings, cnot, cz};
+use crate::gates::{COLOURS, Colour, Gate, Strings, cnot, cz, z};
 use crate::layers::disjoint;
 
 pub struct Random(u64);
@@ -73,11 +73,24 @@ impl Random {
         cnot(self.colour(), control, target)
     }
 
-    pub fn gate(&mut self, m: usize) -> Gate {
+    pub fn z(&mut self, m: usize) -> Gate {
+        z(self.colour(), self.position(m))
+    }
+
+    /// A gate of two or three positions. A program from before request f of document 02 takes it too.
+    pub fn entangling(&mut self, m: usize) -> Gate {
         match self.below(8) {
             0..=2 => self.cz(m),
             3..=4 if m > 1 => self.cnot(m),
             _ => self.ccz(m),
+        }
+    }
+
+    /// Every fifth is a Z.
+    pub fn gate(&mut self, m: usize) -> Gate {
+        match self.once_in(5) {
+            true => self.z(m),
+            false => self.entangling(m),
         }
     }
 

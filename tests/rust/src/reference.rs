@@ -2,7 +2,7 @@
 //! and is then carried through the gates as source document 000 describes them. Nothing is known here of phase
 //! polynomials, slices or elimination, nor of what a start comes to at the end of the gates.
 
-use crate::gates::{COLOURS, Colour, Gate, Spot, Strings, cz};
+use crate::gates::{COLOURS, Colour, Gate, Spot, Strings, cz, z};
 
 /// The sum over all basis strings of a circuit of m positions; meant for m up to 4, at most 6.
 pub struct FullSum {
@@ -38,6 +38,7 @@ fn carry(m: usize, gates: &[Gate], y: u32, mut turned: bool) -> (u32, bool) {
                 control,
                 target,
             } => x ^= one(colour, control) << (colour.number() * m + target - 1),
+            Gate::Z(spot) => turned ^= at(spot) == 1,
         }
     }
     (x, turned)
@@ -129,9 +130,9 @@ impl FullSum {
         joined >> (colour.number() * self.m) & ((1 << self.m) - 1)
     }
 
-    /// The terms of the phase polynomial, read off the signs: the polynomial whose value at x is 1 where the sign at x is
-    /// turned. None if it has a term that document 01 does not know, as it does with a start other than zeros: `terms`
-    /// is for the gates alone.
+    /// The terms of the phase polynomial, read off the signs: the polynomial whose value at x is 1 where the sign at x
+    /// is turned. None if it has a term that documents 01 and 02 do not know. The signs of a start other than zeros
+    /// come in as terms of one position: what `terms` lists are those of the gates alone.
     pub fn terms(&self) -> Option<Vec<Gate>> {
         let mut coefficients: Vec<bool> = self.signs.iter().map(|&sign| sign < 0).collect();
         for place in 0..3 * self.m {
@@ -145,13 +146,14 @@ impl FullSum {
         present.map(|monomial| self.term(monomial)).collect()
     }
 
-    /// A product of bits as a `ccz` or `cz`.
+    /// A product of bits as a `ccz`, `cz` or `z`.
     fn term(&self, monomial: usize) -> Option<Gate> {
         let places = (0..3 * self.m).filter(|place| monomial >> place & 1 == 1);
         let spots: Vec<(usize, usize)> = places.map(|p| (p / self.m, p % self.m + 1)).collect();
         match spots[..] {
             [(0, red), (1, blue), (2, green)] => Some(Gate::Ccz { red, blue, green }),
             [(a, i), (b, j)] if a != b => Some(cz(COLOURS[a], i, COLOURS[b], j)),
+            [(a, i)] => Some(z(COLOURS[a], i)),
             _ => None,
         }
     }

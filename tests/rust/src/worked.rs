@@ -1,10 +1,10 @@
-//! The worked examples in the folder examples/. Six inputs are written by hand, two are made here.
+//! The worked examples in the folder examples/. Seven inputs are written by hand, two are made here.
 
 use crate::circuits::{full_rank, hypercube};
-use crate::gates::{COLOURS, Colour, Strings, spelled};
+use crate::gates::{COLOURS, Colour, Strings, added, digits, spelled};
 use crate::layers::circuit;
 
-pub const NAMES: [&str; 8] = [
+pub const NAMES: [&str; 9] = [
     "handover",
     "hypercube",
     "layers",
@@ -13,6 +13,7 @@ pub const NAMES: [&str; 8] = [
     "session",
     "start",
     "terms",
+    "z",
 ];
 
 /// Positions of a colour in the made examples: 48 qubits.
@@ -33,13 +34,20 @@ fn handover() -> Vec<String> {
     lines
 }
 
-/// The circuit of source document 001 on 16 blocks, with some amplitudes and a readout count.
+/// The bits of the output string that the Z gates of the hypercube's 16 blocks turn: all of green, and those of red and
+/// blue in the blocks whose number less 1 has an even number of ones.
+pub const TURNED: Strings = [0x9669, 0x9669, 0xffff];
+
+/// The circuit of source document 001 on 16 blocks, with some amplitudes and a readout count. All but the first are
+/// asked for with the bits turned, so they are those of zeros and some other strings without the Z gates.
 fn hypercube_session() -> Vec<String> {
     let mut lines = circuit(M, &hypercube(4));
+    lines.extend(amplitude(Colour::Red, [0; 3]));
     for output in [[0; 3], [0x0001, 0, 0], [0x8001, 0x8001, 0], [0xffff; 3]] {
-        lines.extend(amplitude(Colour::Red, output));
+        lines.extend(amplitude(Colour::Red, added(output, TURNED)));
     }
-    lines.push(format!("(part g {0} {0})", "0".repeat(M)));
+    let [red, blue, _] = TURNED.map(|word| digits(M, word));
+    lines.push(format!("(part g {red} {blue})"));
     lines.push("(step 65536)".into());
     lines
 }

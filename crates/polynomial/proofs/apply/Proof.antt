@@ -2,8 +2,9 @@
 use mathlib.Core.Path.{sym, _∙_, ap}
 use borrow.Author.Tests.{not-true, not-false}
 use Rattle.circuit.specs.Sum.{isGate}
-use Rattle.circuit.specs.Polynomial.{applied}
-use Rattle.polynomial.specs.Words.{taken}
+use Rattle.circuit.specs.Polynomial.{Term, toggled, applied}
+use Rattle.polynomial.specs.Words.{wordsOf, taken}
+use Rattle.polynomial.proofs.Terms.{pair-alone}
 use Rattle.circuit.proofs.Gates.{ccz-positions, cz-positions, cnot-positions, z-position}
 use borrow.Author.Needs.{needs}
 use Rattle.polynomial.proofs.apply.Statement.{statement}
@@ -46,11 +47,13 @@ cnot-requires c κs =
 enum-known-g-4 : tie.Need-enum-known-g-4
 enum-known-g-4 c = search needs
 
-toggle-alone-requires : tie.Need-toggle-alone-requires
-toggle-alone-requires c κs =
+toggle-pair-requires-2 : tie.Need-toggle-pair-requires-2
+toggle-pair-requires-2 c κs =
     let tested = c .before .before .before .before in
+    let within =
     z-position 16 (c .before .g4 .given .0 .0)
-    (ap (isGate 16) (sym (c .before .g4 .given .1)) ∙ sym (tested .is-gate .ensures) ∙ not-false _ (c .before .before .before .if1 .left))
+    (ap (isGate 16) (sym (c .before .g4 .given .1)) ∙ sym (tested .is-gate .ensures) ∙ not-false _ (c .before .before .before .if1 .left)) in
+    (within, within)
 
 returns-2 : tie.Need-returns-2
 unfolding taken applied
@@ -86,7 +89,7 @@ returns-5 c = λ f e.
       sym (c .before .before .before .before .before .is-gate .ensures) ∙ not-false _ (c .before .before .before .before .if1 .left),
       c .before .before .g4 .given .1,
     )
-    (c .toggle-alone .ensures f e)
+    (c .toggle-pair2 .ensures f e ∙ ap (λ (h : Term). wordsOf (toggled h f)) (pair-alone (c .before .before .g4 .given .0 .0)))
 
 pub apply-spec : {M : Type 1} → statement M
 apply-spec =
@@ -101,7 +104,7 @@ apply-spec =
     enum-known-g-3
     cnot-requires
     enum-known-g-4
-    toggle-alone-requires
+    toggle-pair-requires-2
     returns-2
     returns-3
     returns-4

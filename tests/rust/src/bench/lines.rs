@@ -4,7 +4,7 @@
 
 use crate::measure::{self, median_seconds};
 use std::time::Duration;
-use waitfield_checks::circuits::{block_ccz, every_position, in_blocks};
+use waitfield_checks::circuits::{block_ccz, every_position, every_z, in_blocks};
 use waitfield_checks::gates::{COLOURS, Gate, Spot};
 use waitfield_checks::layers::layer;
 use waitfield_checks::model::HISTORY;
@@ -71,19 +71,26 @@ impl Lines {
         }
     }
 
-    /// Random gates, a line each, and layers of as many gates as can be fired, on positions in any order. A program
-    /// from before refusal 14 takes them too.
-    pub fn all() -> [Lines; 3] {
+    /// Random gates, a line each, and layers of gates on all positions, in any order. A program from before refusal 14
+    /// takes them too.
+    pub fn all() -> Vec<Lines> {
         let mut random = Random::new(M as u64);
         let ccz = in_blocks(M, block_ccz);
         let cz_and_cnot = every_position(M);
-        [
-            Lines::new("gate lines", 1, || random.gate(M).to_string()),
+        vec![
+            Lines::new("gate lines", 1, || random.entangling(M).to_string()),
             Lines::new("layers of 16 CCZ", ccz.len(), || relabelled(&mut random, &ccz)),
             Lines::new("layers of 24 CZ and CNOT", cz_and_cnot.len(), || {
                 relabelled(&mut random, &cz_and_cnot)
             }),
         ]
+    }
+
+    /// Layers of as many gates as a line may have. A program from before request f of document 02 takes none of them.
+    pub fn with_z() -> Vec<Lines> {
+        let mut random = Random::new(M as u64);
+        let z = every_z(M);
+        vec![Lines::new("layers of 48 Z", z.len(), || relabelled(&mut random, &z))]
     }
 
     pub fn round(&self, program: &Program, samples: &mut Samples) -> Result<(), String> {

@@ -59,7 +59,7 @@ struct Work {
 impl Work {
     fn new(m: usize) -> Work {
         let mut random = Random::new(m as u64);
-        let gates = random.gates(m, GATES);
+        let gates: Vec<Gate> = (0..GATES).map(|_| random.entangling(m)).collect();
         let outputs: Vec<Strings> = (0..SLICES >> m).map(|_| random.strings(m)).collect();
         let polynomial = Polynomial::of(m, &gates);
         let table = |&output: &Strings| Table::of(m, &polynomial, Colour::Red, output);
@@ -200,13 +200,25 @@ fn by_turns<K, S: Default>(
     Ok(samples)
 }
 
+/// Those of the programs, from the first on, that take a Z (02, request f).
+fn with_z(programs: &[Program]) -> Result<&[Program], String> {
+    for (place, program) in programs.iter().enumerate() {
+        if program.run(b"(circuit 1)\n(z (r 1))\n")? != b"(ok)\n(ok)\n" {
+            return Ok(&programs[..place]);
+        }
+    }
+    Ok(programs)
+}
+
 /// Gate lines and layers.
 fn lines(programs: &[Program]) -> Result<(), String> {
-    let kinds = Lines::all();
-    let samples = by_turns(&kinds, programs, Lines::round)?;
-    let figures = kinds.iter().zip(samples);
-    let figures = figures.map(|(lines, samples)| lines::Figures::of(lines, samples));
-    report::print_lines(&figures.collect::<Vec<_>>());
+    let mut figures = Vec::new();
+    for (kinds, programs) in [(Lines::all(), programs), (Lines::with_z(), with_z(programs)?)] {
+        let samples = by_turns(&kinds, programs, Lines::round)?;
+        let several = kinds.iter().zip(samples);
+        figures.extend(several.map(|(lines, samples)| lines::Figures::of(lines, samples)));
+    }
+    report::print_lines(&figures);
     Ok(())
 }
 

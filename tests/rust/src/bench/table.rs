@@ -56,6 +56,6 @@ fn rows(m: usize, polynomial: &Polynomial, sliced: Colour, output: Strings, inde
         rows[p - 1] |= u32::from(present(p, 0) ^ (index == 0 && bit(first, p))) << 16;
         rows[16] |= u32::from(present(0, p) ^ (index == 0 && bit(second, p))) << (p - 1);
     }
-    rows[16] |= u32::from(index > 0 && bit(sliced, index)) << 16;
+    rows[16] |= u32::from(index > 0 && present(0, 0) ^ bit(sliced, index)) << 16;
     rows
 }

@@ -3,7 +3,8 @@
 
 use crate::Checks;
 use crate::grammar::covered;
-use crate::starts::{carried, start_line};
+use crate::starts::start_line;
+use crate::z_gates::shift;
 use waitfield_checks::gates::{COLOURS, Gate, spelled};
 use waitfield_checks::layers::{layer, layers, touches_twice};
 use waitfield_checks::model::{Circuit, listing};
@@ -18,8 +19,10 @@ const CIRCUITS: usize = 60;
 const MET: [&str; 5] = ["(amp -", "(no 7)", "(no 11)", "(no 12)", "(no 14)"];
 
 /// Lines that an open sum turns back, with their refusals; none changes it.
-const BETWEEN: [(&str, &str); 13] = [
+const BETWEEN: [(&str, &str); 15] = [
     ("(ccz 1 1 1)", "(no 7)"),
+    ("(z (r 1))", "(no 7)"),
+    ("(layer (z (b 1)) (z (g 1)))", "(no 7)"),
     ("(undo 1)", "(no 7)"),
     ("(terms)", "(no 7)"),
     ("(circuit 1)", "(no 7)"),
@@ -113,14 +116,15 @@ fn refused_start(script: &mut Script, random: &mut Random, m: usize) {
     script.say(start_line(m + 1, random.strings(m + 1)), "(no 11)");
 }
 
-/// The output strings are the start as it was given, and as it ends, where a sum is most often not 0, and any.
+/// The output strings are the start as it was given, the one that start and Z gates shift the sums by, where a sum is
+/// most often not 0, and any.
 fn circuit(script: &mut Script, random: &mut Random, m: usize) {
     let circuit = build(script, random, m);
     let terms = FullSum::of(m, &circuit.gates).terms();
     script.line("(terms)", listing(&terms.expect("the reference's own checks say so")));
     let full = circuit.full_sum();
-    let ends = carried(circuit.start, &circuit.gates);
-    for output in [circuit.start, ends, random.strings(m), random.strings(m)] {
+    let shifted = shift(circuit.start, &circuit.gates);
+    for output in [circuit.start, shifted, random.strings(m), random.strings(m)] {
         let s = full.amplitude(output);
         for colour in COLOURS {
             let line = format!("(amp {colour} {})", spelled(m, output));

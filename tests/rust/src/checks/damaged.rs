@@ -10,9 +10,10 @@ use waitfield_checks::script::Script;
 /// A session with every form in it. The first layer touches red 1 and blue 2 twice.
 pub const EVERY_FORM: &str = "(circuit 2)
 (layer (ccz 1 2 1) (cz (g 2) (r 1)) (cnot b 2 1))
-(layer (ccz 1 2 1) (cz (g 2) (r 2)))
+(layer (ccz 1 2 1) (cz (g 2) (r 2)) (z (b 1)))
 (layer (cnot b 2 1) (cz (g 2) (r 1)))
 (cz (r 1) (b 2))
+(z (r 2))
 (cnot r 1 2)
 (ccz 2 2 2)
 (undo 1)
@@ -156,6 +157,16 @@ fn inputs() -> Vec<(&'static str, Vec<u8>)> {
         (
             "20,000 lines",
             [lines("(circuit 2)\n", 1), lines("(ccz 1 2 1)\n(undo 1)\n", 10_000)].concat(),
+        ),
+        (
+            "10,000 Z gates and what they leave",
+            [
+                lines("(circuit 2)\n", 1),
+                lines("(z (r 2))\n(cnot r 1 2)\n(undo 1)\n(undo 1)\n", 10_000),
+                lines("(z (r 2))\n(z (r 2))\n", 2_000),
+                lines("(z (g 1))\n(terms)", 1),
+            ]
+            .concat(),
         ),
         ("20,000 refused lines", lines("(step 1)\nNO\n", 10_000)),
         (

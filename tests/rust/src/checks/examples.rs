@@ -1,13 +1,17 @@
 //! The worked examples of the folder examples/: NAME.in and the expected output NAME.out.
 
 use crate::Checks;
+use crate::z_gates::{flushed, without_z};
 use std::fs;
 use std::path::PathBuf;
+use waitfield_checks::circuits::hypercube;
+use waitfield_checks::elimination::{Polynomial, totals};
 use waitfield_checks::forms::Form;
+use waitfield_checks::gates::{Colour, Strings, added};
 use waitfield_checks::layers::touches_twice;
 use waitfield_checks::model::{Answer, Model};
 use waitfield_checks::program::repository;
-use waitfield_checks::worked;
+use waitfield_checks::worked::{self, TURNED};
 
 /// The inputs in the folder, by name.
 fn inputs() -> Result<Vec<PathBuf>, String> {
@@ -34,7 +38,31 @@ fn layers(input: &str) -> Result<(), String> {
     Ok(())
 }
 
+/// The hypercube's Z gates by hand, as a user has to do who has none: the circuit without them gives at a string what
+/// the circuit with them gives at the string with their bits turned, as amplitude and as readout count.
+fn hypercube_by_hand(checks: &mut Checks) {
+    let gates = hypercube(4).concat();
+    checks
+        .tally
+        .equal("the bits that the hypercube's Z gates turn", flushed(&gates), TURNED);
+    let [with, without] = [&gates, &without_z(&gates)].map(|gates| Polynomial::of(16, gates));
+    let numbers = |polynomial: &Polynomial, sliced: Colour, output: Strings| {
+        let totals = totals(polynomial, sliced, output);
+        (totals.amplitude, totals.readout)
+    };
+    for (sliced, output) in [
+        (Colour::Red, [0; 3]),
+        (Colour::Blue, [1, 0, 0]),
+        (Colour::Green, [0xffff; 3]),
+    ] {
+        let name = format!("the hypercube with and without Z gates at {output:x?}");
+        let found = numbers(&with, sliced, added(output, TURNED));
+        checks.tally.equal(&name, found, numbers(&without, sliced, output));
+    }
+}
+
 pub fn check(checks: &mut Checks) {
+    hypercube_by_hand(checks);
     let inputs = match inputs() {
         Ok(inputs) => inputs,
         Err(error) => return checks.tally.check("examples", Err(error)),

@@ -2,7 +2,7 @@
 
 use crate::Checks;
 use waitfield_checks::forms::Form;
-use waitfield_checks::gates::{Gate, cnot, cz, digits};
+use waitfield_checks::gates::{Gate, cnot, cz, digits, z};
 use waitfield_checks::layers::{layer, layers, touches_twice};
 use waitfield_checks::model::{HISTORY, Model};
 use waitfield_checks::random::Random;
@@ -12,7 +12,7 @@ use waitfield_checks::script::Script;
 const LINES: usize = 6000;
 const IN_A_CHECK: usize = 50;
 
-/// Layers before there is a circuit.
+/// Layers, and Z gates, before there is a circuit.
 const LAYERS: usize = 50;
 
 /// Random lines for a circuit of m positions. One that fills the history gives no new circuit and takes little back.
@@ -53,9 +53,22 @@ impl Writer {
         }
     }
 
+    /// A Z, one outside the circuit, or something near to one that has not its form.
+    fn z(&mut self) -> String {
+        let (colour, position) = (self.colour(), self.number(self.m));
+        match self.random.below(20) {
+            0 => format!("(z {colour} {position})"),
+            1 => format!("(z ({colour} {position}) (b 1))"),
+            2 => self.random.pick(&["(z)", "(z ())", "(z ((r 1)))", "(zz (r 1))"]).into(),
+            3 => format!("(z ({colour} {}))", self.m + 1),
+            4 => format!("(z ({colour} 0))"),
+            _ => format!("(z ({colour} {position}))"),
+        }
+    }
+
     fn gate(&mut self) -> String {
         let m = self.m;
-        match self.random.below(6) {
+        match self.random.below(8) {
             0 | 1 => format!("(ccz {} {} {})", self.number(m), self.number(m), self.number(m)),
             2 | 3 if self.random.once_in(6) => {
                 format!(
@@ -67,6 +80,7 @@ impl Writer {
                 )
             }
             2 | 3 => self.random.cz(m).to_string(),
+            4 | 5 => self.z(),
             _ if m > 1 && !self.random.once_in(10) => self.random.cnot(m).to_string(),
             _ => format!("(cnot {} {} {})", self.colour(), self.number(m), self.number(m)),
         }
@@ -76,23 +90,23 @@ impl Writer {
     fn wrong_gate(&mut self) -> Gate {
         let (m, colour) = (self.m, self.random.colour());
         let [p, q] = [0; 2].map(|_| self.random.position(m));
-        match self.random.below(3) {
-            0 => cz(colour, p, colour, q),
-            1 => cnot(colour, p, m + 1),
+        match self.random.below(6) {
+            0 | 1 => cz(colour, p, colour, q),
+            2 => cnot(colour, p, m + 1),
+            3 => z(colour, self.random.pick(&[0, m + 1])),
             _ => cnot(colour, p, p),
         }
     }
 
-    /// Every other layer can be fired. Most of the others touch a position twice, whatever else is wrong with them.
+    /// Three layers in seven can be fired. Most of the others touch a position twice, whatever else is wrong with them.
     fn layer(&mut self) -> String {
         let count = self.random.pick(&[0, 1, 2, 3, 4, 5, 6, 20, 48, 49]);
-        match self.random.below(6) {
+        match self.random.below(7) {
             0..=2 => layer(&self.random.layer(self.m, count)),
-            3 => {
+            3 | 4 => {
                 let mut gates = self.random.gates(self.m, count);
-                let place = self.random.below(count + 1);
-                gates.insert(place, self.wrong_gate());
-                layer(&gates)
+                gates.extend([self.wrong_gate(), self.random.z(self.m)]);
+                layer(&self.random.shuffled(&gates))
             }
             _ if count > 6 => layer(&self.random.gates(self.m, count)),
             _ => {
@@ -220,17 +234,33 @@ const MET: [&str; 18] = [
 
 const MET_BY_CLASHES: [&str; 6] = ["(no 5)", "(no 6)", "(no 7)", "(no 9)", "(no 10)", "(no 14)"];
 
+/// A Z gate has no refusal of its own: in a layer it may stand beside what 5 and 10 are for.
+const MET_BY_Z: [&str; 5] = ["(ok)", "(no 4)", "(no 6)", "(no 7)", "(no 9)"];
+const MET_BY_LAYERS_WITH_Z: [&str; 7] = ["(ok)", "(no 4)", "(no 5)", "(no 7)", "(no 9)", "(no 10)", "(no 14)"];
+
+fn begins_with_z(line: &[u8]) -> bool {
+    line.starts_with(b"(z")
+}
+
+fn is_layer_with_z(line: &[u8]) -> bool {
+    line.starts_with(b"(layer") && line.windows(3).any(|bytes| bytes == b"(z ")
+}
+
 fn any_lines(checks: &mut Checks, writer: &mut Writer, seed: u64) {
     let name = format!("random lines, seed {seed}");
     let (mut script, mut model) = (Script::default(), Model::default());
-    script.case(format!("{name}: layers with no circuit"));
+    script.case(format!("{name}: layers and Z gates with no circuit"));
     for _ in 0..LAYERS {
-        script.bytes(&mut model, format!("{}\n", writer.layer()).as_bytes());
+        let lines = format!("{}\n{}\n", writer.layer(), writer.z());
+        script.bytes(&mut model, lines.as_bytes());
     }
     lines(&mut script, &mut model, writer, &name, LINES);
     checks.run(&script);
     covered(checks, &script, &name, &MET);
     covered_by_clashes(checks, &script, &name, &MET_BY_CLASHES);
+    covered_by(checks, &script, &format!("{name}: by a Z"), &MET_BY_Z, begins_with_z);
+    let layers = format!("{name}: by a layer with a Z");
+    covered_by(checks, &script, &layers, &MET_BY_LAYERS_WITH_Z, is_layer_with_z);
 }
 
 /// Lines on a history that is filled up again and again.
@@ -247,11 +277,12 @@ fn lines_on_full_history(checks: &mut Checks, writer: &mut Writer, seed: u64) {
         for several in layers(&writer.random.gates(2, HISTORY - held)) {
             script.bytes(&mut model, format!("{}\n", layer(&several)).as_bytes());
         }
-        lines(&mut script, &mut model, writer, &name, 300);
+        lines(&mut script, &mut model, writer, &name, 600);
     }
     checks.run(&script);
     covered(checks, &script, &name, &["(no 13)"]);
     covered_by_clashes(checks, &script, &name, &["(no 14)"]);
+    covered_by(checks, &script, &format!("{name}: by a Z"), &["(no 13)"], begins_with_z);
 }
 
 pub fn check(checks: &mut Checks) {

@@ -3,21 +3,22 @@
 
 use crate::Checks;
 use crate::circuits::in_layers;
-use crate::starts::{carried, start_line};
+use crate::starts::start_line;
+use crate::z_gates::shift;
 use waitfield_checks::elimination::Polynomial;
-use waitfield_checks::gates::{COLOURS, Gate, Strings, cnot, spelled};
+use waitfield_checks::gates::{COLOURS, Gate, Strings, cnot, spelled, z};
 use waitfield_checks::layers::layer;
 use waitfield_checks::model::{HISTORY, listing};
 use waitfield_checks::random::Random;
 use waitfield_checks::reference::FullSum;
 use waitfield_checks::script::Script;
 
-/// Terms, and amplitudes at the string that the start ends as and at any, by the full sum.
+/// Terms, and amplitudes at the string that start and Z gates shift the sums by and at any, by the full sum.
 fn seen(script: &mut Script, random: &mut Random, m: usize, start: Strings, gates: &[Gate]) {
     let terms = FullSum::of(m, gates).terms();
     script.line("(terms)", listing(&terms.expect("the reference's own checks say so")));
     let full = FullSum::started(m, start, gates);
-    for output in [carried(start, gates), random.strings(m)] {
+    for output in [shift(start, gates), random.strings(m)] {
         let (colour, s) = (random.colour(), full.amplitude(output));
         let line = format!("(amp {colour} {})", spelled(m, output));
         script.line(line, format!("(left {})", 1 << m));
@@ -33,7 +34,7 @@ fn set_start(script: &mut Script, random: &mut Random, m: usize) -> Strings {
 
 fn overfull(script: &mut Script, random: &mut Random, m: usize) {
     let gate = random.gate(m).to_string();
-    for line in [&gate, "(ccz 1 1 1)", "(cz (g 1) (r 2))", "(cnot b 2 1)"] {
+    for line in [&gate, "(ccz 1 1 1)", "(cz (g 1) (r 2))", "(cnot b 2 1)", "(z (g 2))"] {
         script.say(line, "(no 13)");
     }
     for count in [1, 2, 3] {
@@ -69,6 +70,7 @@ fn filled_and_taken_back(script: &mut Script, random: &mut Random, m: usize) {
     script.say("(undo 2)", "(ok)");
     let three = one_a_colour();
     script.say(layer(&three), "(no 13)");
+    script.say(layer(&COLOURS.map(|colour| z(colour, 2))), "(no 13)");
     seen(script, random, m, start, &gates[..4094]);
     script.say(layer(&three[1..]), "(ok)");
     overfull(script, random, m);
@@ -116,6 +118,7 @@ fn used_again(script: &mut Script, random: &mut Random, m: usize) {
     script.say("(undo 1)", "(no 12)");
     in_layers(script, &gates);
     script.say("(ccz 1 1 1)", "(no 13)");
+    script.say("(z (r 1))", "(no 13)");
     seen(script, random, m, [0; 3], &gates);
 }
 

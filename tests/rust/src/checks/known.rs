@@ -1,9 +1,10 @@
 //! The worked listing, the known sums and the edges, as documents 01 and 02 give them.
 
 use crate::Checks;
-use waitfield_checks::circuits::every_position;
+use crate::refusals::model_agrees;
+use waitfield_checks::circuits::{block_ccz, every_position, every_z};
 use waitfield_checks::gates::Colour::{Blue, Red};
-use waitfield_checks::gates::{COLOURS, Gate, cnot, cz};
+use waitfield_checks::gates::{COLOURS, Gate, cnot, cz, z};
 use waitfield_checks::layers::layer;
 use waitfield_checks::model::listing;
 use waitfield_checks::script::Script;
@@ -41,6 +42,15 @@ const CNOT: Gate = Gate::Cnot {
     target: 1,
 };
 
+const CCZ_AND_Z: &[(&str, i64)] = &[("1 0 0", 6), ("0 0 0", 2), ("0 1 0", -2), ("0 1 1", 2), ("1 1 1", -2)];
+
+/// The circuit of source document 001 on two blocks, with CCZ and these gates in its first stage.
+fn two_blocks(in_first: &[Gate]) -> Vec<Gate> {
+    let stage = [block_ccz(1), block_ccz(2)];
+    let cnots = COLOURS.map(|colour| cnot(colour, 1, 2));
+    [&stage, in_first, &cnots, &stage].concat()
+}
+
 pub fn known_sums() -> Vec<Known> {
     let started = |m, start, gates: &[Gate], sums| Known {
         m,
@@ -63,6 +73,17 @@ pub fn known_sums() -> Vec<Known> {
             &[cnot(Red, 1, 2)],
             &[("11 00 00", 64), ("01 00 00", 0)],
         ),
+        // The case of document 02, request f; a Z twice, before and behind a CNOT; and the sums of a CCZ with red's bit
+        // of the string turned.
+        known(1, &[z(Red, 1)], &[("1 0 0", 8), ("0 0 0", 0)]),
+        known(1, &[z(Red, 1), z(Red, 1)], &[("0 0 0", 8), ("1 0 0", 0)]),
+        known(2, &[z(Red, 1), CNOT], &[("11 00 00", 64), ("10 00 00", 0)]),
+        known(2, &[CNOT, z(Red, 1)], &[("10 00 00", 64), ("11 00 00", 0)]),
+        known(1, &[CCZ, z(Red, 1)], CCZ_AND_Z),
+        known(1, &[z(Red, 1), CCZ], CCZ_AND_Z),
+        known(2, &two_blocks(&[]), &[("10 00 00", 4)]),
+        // The CNOT brings red's Z on block 2 to both blocks.
+        known(2, &two_blocks(&[z(Red, 2)]), &[("01 00 00", 4)]),
     ]
 }
 
@@ -77,6 +98,16 @@ pub const ONE_COLOUR: [(&str, &str, u64); 5] = [
     ("1 1 0", "0", 3),
     ("0 0 1", "0", 1),
     ("1 0 1", "1", 3),
+];
+
+/// Counts for m = 1 and a Z on red.
+const WITH_Z: [[&str; 2]; 6] = [
+    ["(part g 1 0)", "(part 8 3)"],
+    ["(part g 0 0)", "(part 0 3)"],
+    ["(part r 0 0)", "(part 8 3)"],
+    ["(one r 1)", "(one 4 2)"],
+    ["(one r 0)", "(one 0 2)"],
+    ["(one b 0)", "(one 4 2)"],
 ];
 
 /// A known sum with every colour sliced.
@@ -116,6 +147,13 @@ fn sums(checks: &mut Checks) {
         script.say(format!("(one g {read})"), "(left 2)");
         script.line("(step 2)", format!("(one {count} 2)"));
     }
+    for [opened, ended] in WITH_Z {
+        script.case(format!("{opened} after a Z on red"));
+        script.say("(circuit 1)", "(ok)");
+        script.say("(z (r 1))", "(ok)");
+        script.say(opened, "(left 2)");
+        script.say("(step 2)", ended);
+    }
     script.case("two terms after a CCZ and a CNOT");
     script.say("(circuit 2)", "(ok)");
     script.say("(ccz 1 1 1)", "(ok)");
@@ -127,6 +165,7 @@ fn sums(checks: &mut Checks) {
     };
     script.line("(terms)", listing(&[CCZ, other]));
     checks.run(&script);
+    model_agrees(checks, &script, "known sums");
 }
 
 /// A line of the given length that has a form: `(circuit 1..)` with as many digits as it takes.
@@ -148,20 +187,27 @@ fn edges(checks: &mut Checks) {
     edge(long_circuit(1023), "(no 9)");
     edge(long_circuit(1024), "(no 9)");
     edge(long_circuit(1025), "(no 2)");
-    for gate in [cz(Red, 16, Blue, 16), CNOT, CCZ] {
+    for gate in [cz(Red, 16, Blue, 16), CNOT, CCZ, z(Blue, 16)] {
         edge(layer(&[gate]), "(ok)");
-        // No layer of 25 gates or more can be fired: what 48 show is that 9 is not given.
+        // What 48 of one gate show is that 9 is not given.
         for count in [2, 24, 25, 47, 48] {
             edge(layer(&vec![gate; count]), "(no 14)");
         }
         edge(layer(&vec![gate; 49]), "(no 9)");
     }
     edge(layer(&every_position(16)), "(ok)");
+    let all = every_z(16);
+    edge(layer(&all[..47]), "(ok)");
+    edge(layer(&all), "(ok)");
+    // A 49th has no position left, and the number of gates is tried before.
+    all.iter()
+        .for_each(|&gate| edge(layer(&[&all[..], &[gate]].concat()), "(no 9)"));
     edge("(layer)".into(), "(no 9)");
-    // Three single gates and a layer of 24 are held, no more.
-    edge("(undo 28)".into(), "(no 12)");
-    edge("(undo 27)".into(), "(ok)");
+    // Four single gates and layers of 24, 47 and 48 are held, no more.
+    edge("(undo 124)".into(), "(no 12)");
+    edge("(undo 123)".into(), "(ok)");
     checks.run(&script);
+    model_agrees(checks, &script, "edges");
 }
 
 pub fn check(checks: &mut Checks) {

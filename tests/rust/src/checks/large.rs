@@ -1,18 +1,19 @@
 //! Circuits of 13 to 16 positions a colour: slices of rank 13 and more, by the independent elimination and in closed form.
 
 use crate::Checks;
-use crate::starts::{carried, start_line};
+use crate::starts::start_line;
+use crate::z_gates::shift;
 use waitfield_checks::circuits::{block_ccz, full_rank, hypercube, in_blocks};
 use waitfield_checks::elimination::{Polynomial, totals};
 use waitfield_checks::gates::Colour::{Blue, Green, Red};
 use waitfield_checks::gates::{COLOURS, Colour, Gate, Strings, cz, digits, spelled};
 use waitfield_checks::layers::{self, layers};
-use waitfield_checks::model::listing;
+use waitfield_checks::model::{Circuit, listing};
 use waitfield_checks::random::Random;
 use waitfield_checks::script::Script;
 
 /// Gates of a dense circuit.
-pub const DENSE: usize = 384;
+pub const DENSE: usize = 480;
 
 pub fn circuit(script: &mut Script, m: usize, layers: &[Vec<Gate>]) {
     let lines = layers::circuit(m, layers);
@@ -42,7 +43,9 @@ type Ends = (Strings, Strings);
 
 /// A circuit whose amplitudes and counts the elimination gives. Its start is given half way through.
 fn eliminated(checks: &mut Checks, name: &str, m: usize, layers: &[Vec<Gate>], (start, output): Ends) {
-    let polynomial = Polynomial::started(m, start, &layers.concat());
+    let gates = layers.concat();
+    let circuit = Circuit { m, gates, start };
+    let polynomial = circuit.polynomial();
     let sliced = COLOURS.map(|colour| totals(&polynomial, colour, output));
     let high = sliced
         .each_ref()
@@ -60,7 +63,7 @@ fn eliminated(checks: &mut Checks, name: &str, m: usize, layers: &[Vec<Gate>], (
     let mut lines = layers::circuit(m, layers);
     lines.insert(1 + layers.len() / 2, start_line(m, start));
     lines.iter().for_each(|line| script.say(line, "(ok)"));
-    script.line("(terms)", listing(&polynomial.terms()));
+    script.line("(terms)", listing(&circuit.terms()));
     for (colour, totals) in COLOURS.into_iter().zip(sliced) {
         script.case(format!("{name}: amplitude sliced on {colour}"));
         amplitude(&mut script, m, colour, output, s);
@@ -142,7 +145,7 @@ pub fn check(checks: &mut Checks) {
     }
     // At most other strings all slices of high rank are 0.
     let start = [0x8001, 0x00f0, 0x1234];
-    let ends = (start, carried(start, &hypercube(4).concat()));
+    let ends = (start, shift(start, &hypercube(4).concat()));
     eliminated(checks, "hypercube", 16, &hypercube(4), ends);
     let polynomial = Polynomial::of(16, &full_rank(16, 48).concat());
     let ranks = totals(&polynomial, Red, [0; 3]).ranks;

@@ -1,12 +1,15 @@
 //! Layers. One that touches a position of a colour twice is turned back whole, by 14; one that is taken leaves the same
 //! terms and the same sums for every order of its gates. How 14 stands beside the other numbers is among the refusals.
 
+mod all_positions;
+
 use crate::Checks;
 use crate::circuits::in_layers;
 use crate::refusals::model_agrees;
-use crate::starts::{carried, start_line, started};
+use crate::starts::{start_line, started};
+use crate::z_gates::shift;
 use std::collections::BTreeSet;
-use waitfield_checks::circuits::{block_ccz, every_position, in_blocks};
+use waitfield_checks::circuits::{block_ccz, every_position, every_z, in_blocks};
 use waitfield_checks::elimination::Polynomial;
 use waitfield_checks::gates::{COLOURS, Colour, Gate, Spot, cnot, cz, spelled};
 use waitfield_checks::layers::layer;
@@ -39,6 +42,7 @@ fn every_gate(m: usize) -> Vec<Gate> {
             gates.extend((i != j).then(|| cnot(colour, i, j)));
         }
     }
+    gates.extend(every_z(m));
     gates
 }
 
@@ -53,8 +57,8 @@ fn seen(script: &mut Script, circuit: &Circuit) {
     script.line("(terms)", listing(&terms.expect("the reference's own checks say so")));
     let full = circuit.full_sum();
     let all = (1 << m) - 1;
-    let ends = carried(circuit.start, &circuit.gates);
-    let outputs = [ends, [all; 3], [1, all - 1, 1]];
+    let shifted = shift(circuit.start, &circuit.gates);
+    let outputs = [shifted, [all; 3], [1, all - 1, 1]];
     for (colour, output) in COLOURS.into_iter().zip(outputs) {
         let s = full.amplitude(output);
         script.line(
@@ -112,6 +116,7 @@ fn role(gate: Gate, place: usize) -> &'static str {
         Gate::Ccz { .. } => "of a CCZ",
         Gate::Cz(..) => ["first of a CZ", "second of a CZ"][place],
         Gate::Cnot { .. } => ["control", "target"][place],
+        Gate::Z(_) => "of a Z",
     }
 }
 
@@ -160,13 +165,14 @@ fn every_two_places(script: &mut Script, name: &str, gates: &[Gate], met: &mut B
     script.say("(undo 1)", "(no 12)");
 }
 
-/// Layers of 16 positions: a CCZ in each block, every position by two, and random ones. Five roles can meet five in
-/// each colour.
+/// Layers of 16 positions: a CCZ in each block, every position by two, every position by itself, and random ones. Six
+/// roles can meet six in each colour.
 fn large_layers(checks: &mut Checks) {
     let mut script = Script::default();
     let mut met = BTreeSet::new();
     every_two_places(&mut script, "16 CCZ", &in_blocks(16, block_ccz), &mut met);
     every_two_places(&mut script, "24 CZ and CNOT", &every_position(16), &mut met);
+    every_two_places(&mut script, "48 Z", &every_z(16), &mut met);
     for seed in checks.seeds.clone() {
         let mut random = Random::new(seed);
         for number in 0..LARGE {
@@ -178,38 +184,7 @@ fn large_layers(checks: &mut Checks) {
     model_agrees(checks, &script, "a clash at every two places");
     checks
         .tally
-        .equal("ways in which two gates of a layer meet", met.len(), 75);
-}
-
-/// A layer that touches all 48 positions: no gate fits beside it, and each of its gates can be turned round.
-fn all_positions(checks: &mut Checks) {
-    let gates = every_position(16);
-    let mut script = Script::default();
-    script.case("24 gates on all 48 positions");
-    script.say("(circuit 16)", "(ok)");
-    script.say(layer(&gates), "(ok)");
-    script.case("25 gates");
-    let cnots = |p: usize| COLOURS.map(|colour| cnot(colour, p, 1 + p % 16));
-    let more = (1..=16).flat_map(cnots).chain(in_blocks(16, block_ccz));
-    more.for_each(|gate| script.say(layer(&[&gates[..], &[gate]].concat()), "(no 14)"));
-    script.case("24 gates, each turned round");
-    for (place, &gate) in gates.iter().enumerate() {
-        let mut turned = gates.clone();
-        turned[place] = match gate {
-            Gate::Cnot {
-                colour,
-                control,
-                target,
-            } => cnot(colour, target, control),
-            _ => gate.turned(),
-        };
-        script.say(layer(&turned), "(ok)");
-        script.say("(undo 24)", "(ok)");
-    }
-    script.say("(undo 25)", "(no 12)");
-    script.say("(undo 24)", "(ok)");
-    checks.run(&script);
-    model_agrees(checks, &script, "24 and 25 gates");
+        .equal("ways in which two gates of a layer meet", met.len(), 108);
 }
 
 /// A random layer behind random gates, as it was drawn, backwards, and in other orders. The start is given before all
@@ -271,6 +246,11 @@ const FREE: [(&str, &[&str]); 3] = [
             "(layer (cnot r 1 2) (cnot b 1 2) (cnot g 1 2))",
             "(layer (cz (r 1) (b 1)) (cz (g 1) (r 2)) (cz (b 2) (g 2)))",
             "(layer (cnot g 2 1) (cz (r 1) (b 1)) (cz (b 2) (r 2)))",
+            "(layer (z (r 1)) (z (b 1)) (z (g 1)))",
+            "(layer (z (r 1)) (z (r 2)) (z (b 1)) (z (b 2)) (z (g 1)) (z (g 2)))",
+            "(layer (z (r 1)) (cz (b 1) (g 1)) (z (r 2)))",
+            "(layer (z (b 2)) (ccz 1 1 1) (z (g 2)))",
+            "(layer (cnot r 1 2) (z (g 1)) (cnot b 2 1) (z (g 2)))",
         ],
     ),
     (
@@ -282,6 +262,8 @@ const FREE: [(&str, &[&str]); 3] = [
             "(layer (cnot r 1 2))",
             "(layer (cnot r 2 1) (cz (b 1) (g 1)))",
             "(layer (cnot r 2 1) (cz (b 1) (g 1)))",
+            "(layer (z (r 1)) (z (g 1)))",
+            "(layer (z (g 1)) (z (r 1)))",
         ],
     ),
     (
@@ -297,6 +279,12 @@ const FREE: [(&str, &[&str]); 3] = [
             "(cnot r 2 1)",
             "(layer (ccz 2 1 1))",
             "(ccz 2 1 1)",
+            "(z (r 2))",
+            "(z (r 2))",
+            "(cnot r 1 2)",
+            "(z (r 1))",
+            "(layer (z (r 1)))",
+            "(cz (r 1) (g 1))",
         ],
     ),
 ];
@@ -341,12 +329,13 @@ fn last_places(checks: &mut Checks) {
 }
 
 pub fn check(checks: &mut Checks) {
-    // Two gates touch at least four positions, and at m = 1 there are three.
-    every_pair(checks, 1, 0);
-    // 8 pairs of two CCZ, 240 of two CZ, 24 of two CNOT; 96 of a CZ and a CCZ, and 96 of a CZ and a CNOT.
-    every_pair(checks, 2, 464);
+    // 6 pairs of two Z, and 12 of a Z and a CZ: any other two touch at least four positions, and there are three.
+    every_pair(checks, 1, 18);
+    // 8 pairs of two CCZ, 240 of two CZ, 24 of two CNOT; 96 of a CZ and a CCZ, and 96 of a CZ and a CNOT; 30 of two Z,
+    // 48 of a Z and a CCZ, 192 of a Z and a CZ, 48 of a Z and a CNOT.
+    every_pair(checks, 2, 782);
     large_layers(checks);
-    all_positions(checks);
+    all_positions::check(checks);
     any_order(checks);
     free(checks);
     last_places(checks);

@@ -1,5 +1,5 @@
-//! The order of a listing (02, request d): by hand, by loops in the words of the request, and where two circuits have
-//! one polynomial.
+//! The order of a listing (02, requests d and f): by hand, by loops in the words of the requests, and where two
+//! circuits have one polynomial.
 
 use crate::Checks;
 use crate::circuits::in_layers;
@@ -7,7 +7,7 @@ use crate::refusals::model_agrees;
 use waitfield_checks::circuits;
 use waitfield_checks::elimination::Polynomial;
 use waitfield_checks::gates::Colour::{Blue, Green, Red};
-use waitfield_checks::gates::{Gate, cz};
+use waitfield_checks::gates::{COLOURS, Gate, cz, z};
 use waitfield_checks::model::{Answer, HISTORY, listing};
 use waitfield_checks::random::Random;
 use waitfield_checks::script::Script;
@@ -20,8 +20,10 @@ const SETS: usize = 8;
 const POLYNOMIALS: usize = 4;
 
 /// Gates as an operator may give them, and their listing, both written by hand.
-const GIVEN: [&str; 17] = [
+const GIVEN: [&str; 24] = [
+    "(z (g 2))",
     "(cz (g 10) (b 11))",
+    "(z (b 12))",
     "(ccz 10 1 12)",
     "(cz (b 1) (r 10))",
     "(cz (r 12) (g 1))",
@@ -29,18 +31,23 @@ const GIVEN: [&str; 17] = [
     "(cz (r 9) (b 12))",
     "(cz (g 4) (b 1))",
     "(ccz 2 3 11)",
+    "(z (r 10))",
     "(cz (g 12) (r 1))",
     "(cz (b 3) (r 9))",
+    "(z (g 1))",
     "(ccz 10 1 2)",
     "(cz (b 11) (g 2))",
     "(cz (g 11) (r 3))",
     "(cz (r 2) (b 10))",
     "(ccz 2 10 1)",
+    "(z (b 3))",
     "(cz (r 3) (g 2))",
+    "(z (r 2))",
     "(cz (b 2) (g 10))",
+    "(z (g 11))",
 ];
 
-const LISTED: [&str; 17] = [
+const LISTED: [&str; 24] = [
     "(ccz 2 3 11)",
     "(ccz 2 10 1)",
     "(ccz 2 10 9)",
@@ -58,6 +65,13 @@ const LISTED: [&str; 17] = [
     "(cz (b 2) (g 10))",
     "(cz (b 11) (g 2))",
     "(cz (b 11) (g 10))",
+    "(z (r 2))",
+    "(z (r 10))",
+    "(z (b 3))",
+    "(z (b 12))",
+    "(z (g 1))",
+    "(z (g 2))",
+    "(z (g 11))",
 ];
 
 fn by_hand(checks: &mut Checks) {
@@ -66,7 +80,7 @@ fn by_hand(checks: &mut Checks) {
     script.say("(circuit 12)", "(ok)");
     GIVEN.iter().for_each(|gate| script.say(gate, "(ok)"));
     let answer = Answer {
-        first: "(terms 17)".into(),
+        first: "(terms 24)".into(),
         later: LISTED.map(String::from).to_vec(),
     };
     script.line("(terms)", answer);
@@ -76,7 +90,7 @@ fn by_hand(checks: &mut Checks) {
 
 /// Every term of m positions, in the words of document 02: "First the CCZ terms by red, then blue, then green position.
 /// Then CZ terms red-blue, red-green, blue-green, each by first and then second position, colours written in the order
-/// r, b, g".
+/// r, b, g"; terms of one position "last, by colour and position".
 pub fn every_term(m: usize) -> Vec<Gate> {
     let mut terms = Vec::new();
     for red in 1..=m {
@@ -91,6 +105,11 @@ pub fn every_term(m: usize) -> Vec<Gate> {
             for j in 1..=m {
                 terms.push(cz(first, i, second, j));
             }
+        }
+    }
+    for colour in COLOURS {
+        for i in 1..=m {
+            terms.push(z(colour, i));
         }
     }
     terms

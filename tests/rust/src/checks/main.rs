@@ -4,6 +4,7 @@
 mod at_once;
 mod circuits;
 mod damaged;
+mod documents;
 mod examples;
 mod grammar;
 mod history;
@@ -18,6 +19,7 @@ mod readouts;
 mod refusals;
 mod starts;
 mod streams;
+mod z_gates;
 
 use std::process::ExitCode;
 use waitfield_checks::program::Program;
@@ -86,6 +88,7 @@ groups! {
     "readout counts": readouts,
     "one colour read": one_colour,
     "starting strings": starts,
+    "Z gates": z_gates,
     "middle circuits": middle,
     "large circuits": large,
     "refusals": refusals,
@@ -96,6 +99,7 @@ groups! {
     "answers at once": at_once,
     "failed and slow streams": streams,
     "examples": examples,
+    "sessions in the documents": documents,
 }
 
 /// What differed is printed as it is found, and `cargo test` shows it with the failure.

@@ -4,7 +4,7 @@
 use crate::Checks;
 use crate::circuits::{build, in_layers, sum};
 use crate::grammar::covered;
-use crate::starts::carried;
+use crate::z_gates::shift;
 use waitfield_checks::elimination::{Totals, totals};
 use waitfield_checks::gates::{COLOURS, Colour, Strings, digits, spelled};
 use waitfield_checks::model::{Circuit, listing};
@@ -17,7 +17,7 @@ pub const SIZES: std::ops::RangeInclusive<usize> = 5..=12;
 const CIRCUITS: usize = 12;
 
 /// Gates that make a circuit dense: its slices have any rank up to m.
-const THICK: usize = 288;
+const THICK: usize = 360;
 
 /// What the random circuits of one m must have met to mean something.
 const MET: [&str; 2] = ["(amp -", "(no 7)"];
@@ -32,13 +32,14 @@ pub fn thicken(script: &mut Script, random: &mut Random, circuit: &mut Circuit) 
     circuit.gates.truncate(circuit.gates.len() - k);
 }
 
-/// The start as it was given, and as it ends, a string that differs from that in one place, and any.
+/// The start as it was given, the string that start and Z gates shift the sums by, one that differs from that in one
+/// place, and any.
 fn outputs(random: &mut Random, circuit: &Circuit) -> [Strings; 4] {
     let Circuit { m, gates, start } = circuit;
-    let ends = carried(*start, gates);
-    let mut beside = ends;
+    let shifted = shift(*start, gates);
+    let mut beside = shifted;
     beside[random.below(3)] ^= 1 << random.below(*m);
-    [*start, ends, beside, random.strings(*m)]
+    [*start, shifted, beside, random.strings(*m)]
 }
 
 /// The amplitude sliced on a colour and the readout count with that colour unread, both in steps of random sizes.
@@ -57,7 +58,7 @@ fn circuit(checks: &mut Checks, script: &mut Script, random: &mut Random, m: usi
         thicken(script, random, &mut circuit);
     }
     let polynomial = circuit.polynomial();
-    script.line("(terms)", listing(&polynomial.terms()));
+    script.line("(terms)", listing(&circuit.terms()));
     for output in outputs(random, &circuit) {
         let sliced = COLOURS.map(|colour| totals(&polynomial, colour, output));
         let amplitudes = sliced.each_ref().map(|totals| totals.amplitude);

@@ -7,7 +7,8 @@ use crate::grammar::covered;
 use crate::large::{DENSE, circuit};
 use crate::middle::{SIZES, thicken};
 use crate::readouts::{counted, part};
-use crate::starts::{carried, given_anywhere, start_line, started};
+use crate::starts::{given_anywhere, start_line, started};
+use crate::z_gates::{on_ones, shift};
 use waitfield_checks::circuits::{block_ccz, full_rank, hypercube, in_blocks};
 use waitfield_checks::elimination::{Polynomial, one_colour};
 use waitfield_checks::gates::Colour::{Blue, Green, Red};
@@ -194,7 +195,8 @@ fn eliminated(checks: &mut Checks, name: &str, polynomial: &Polynomial, read: Co
     first
 }
 
-/// Circuits of one m, each colour asked for the string that is its start as it was given, as it ends, and for any other.
+/// Circuits of one m, each colour asked for the string that is its start as it was given, for the one that start and Z
+/// gates shift its counts by, and for any other.
 fn middle(checks: &mut Checks, random: &mut Random, seed: u64, m: usize) {
     let mut script = Script::default();
     for number in 0..MIDDLE {
@@ -205,7 +207,7 @@ fn middle(checks: &mut Checks, random: &mut Random, seed: u64, m: usize) {
             thicken(&mut script, random, &mut circuit);
         }
         let polynomial = circuit.polynomial();
-        let strings = [circuit.start, carried(circuit.start, &circuit.gates), random.strings(m)];
+        let strings = [circuit.start, shift(circuit.start, &circuit.gates), random.strings(m)];
         for read in COLOURS {
             for string in strings.map(|strings| strings[read.number()]) {
                 let count = eliminated(checks, &name, &polynomial, read, string);
@@ -256,6 +258,16 @@ fn closed_forms(checks: &mut Checks) {
             COLOURS
                 .iter()
                 .for_each(|&read| large(&mut script, m, read, string, 3u64.pow(zeros)));
+        }
+        // Z gates turn bits of what is left over in each colour: another string has the same count.
+        let turned = [0x2f05, 0x1aaa, 0x0001].map(|string| string & all);
+        script.case(format!("a CCZ in each of {m} blocks and Z gates"));
+        circuit(&mut script, m, &[on_ones(turned), in_blocks(m, block_ccz)]);
+        for (read, turned) in COLOURS.into_iter().zip(turned) {
+            for string in [0, 0x1234 & all, all] {
+                let zeros = m as u32 - (string ^ turned).count_ones();
+                large(&mut script, m, read, string, 3u64.pow(zeros));
+            }
         }
         // Blue's form is the string of green, whatever red is; green's that of blue. Red has none.
         script.case(format!("a CZ of blue and green in each of {m} blocks"));

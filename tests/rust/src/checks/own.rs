@@ -4,12 +4,13 @@
 use crate::Checks;
 use crate::known::{LISTING, ONE_COLOUR, known_sums};
 use crate::listings::every_term;
-use crate::starts::{carried, started};
+use crate::starts::{carried, started, with_cnots};
+use crate::z_gates::{flushed, without_z};
 use std::fmt::Debug;
 use waitfield_checks::elimination::{Polynomial, one_colour, totals};
 use waitfield_checks::gates::{COLOURS, Colour, Gate, Spot, strings};
 use waitfield_checks::layers::{layers, touches_twice};
-use waitfield_checks::model::{Answer, Model, listing};
+use waitfield_checks::model::{Answer, Circuit, Model, listing};
 use waitfield_checks::random::Random;
 use waitfield_checks::reference::{FullSum, joined};
 use waitfield_checks::script::{Expected, answers};
@@ -90,7 +91,7 @@ fn lines_in_order(checks: &mut Checks) {
         let (line, found, term) = (place + 1, changed[place], terms[place]);
         let name = format!("a listing that differs from line {line} on");
         let message = format!(
-            "(terms) was answered (terms 20), expected (terms 20); line {line} of the listing {found}, expected {term}"
+            "(terms) was answered (terms 26), expected (terms 26); line {line} of the listing {found}, expected {term}"
         );
         let output = Answer::of_terms(changed).to_string();
         let (answers, _) = answers(output.as_bytes());
@@ -102,8 +103,8 @@ fn lines_in_order(checks: &mut Checks) {
         exchanged.swap(place, place + 1);
         differs(place, &exchanged);
     }
-    // Eight CCZ terms stand before the CZ terms.
-    for (place, term) in terms.iter().enumerate().skip(8) {
+    // Eight CCZ terms stand before the twelve CZ terms.
+    for (place, term) in terms.iter().enumerate().skip(8).take(12) {
         let mut turned = terms.clone();
         turned[place] = term.turned();
         differs(place, &turned);
@@ -137,13 +138,16 @@ fn agreement(random: &mut Random, m: usize) -> Result<(), String> {
     let count = random.below(40);
     let circuit = started(random, m, count);
     let (full, polynomial) = (circuit.full_sum(), circuit.polynomial());
-    let terms = FullSum::of(m, &circuit.gates).terms();
-    same(
-        "terms in full and by expansion",
-        listing(&terms.ok_or("a term of another kind")?),
-        listing(&polynomial.terms()),
-    )
-    .map_err(|difference| format!("{difference} after {circuit:?}"))?;
+    // Those of the gates alone, and with the signs of the start among them.
+    let both = [
+        (FullSum::of(m, &circuit.gates).terms(), circuit.terms()),
+        (full.terms(), polynomial.terms()),
+    ];
+    for (in_full, expanded) in both {
+        let in_full = listing(&in_full.ok_or("a term of another kind")?);
+        same("terms in full and by expansion", in_full, listing(&expanded))
+            .map_err(|difference| format!("{difference} after {circuit:?}"))?;
+    }
     for _ in 0..4 {
         let output = random.strings(m);
         for colour in COLOURS {
@@ -177,6 +181,47 @@ fn started_sums(random: &mut Random, m: usize) -> Result<bool, String> {
     )
     .map_err(|difference| format!("{difference} after {circuit:?}"))?;
     Ok(ends != circuit.start)
+}
+
+/// A random circuit at every output string s: its full sum is that of the circuit without its Z gates at s with these
+/// added, once they are flushed to the end. Whether CNOTs have moved them on the way.
+fn flushed_sums(random: &mut Random, m: usize) -> Result<bool, String> {
+    let count = random.below(40);
+    let mut circuit = started(random, m, count);
+    if m > 1 {
+        circuit.gates.extend(with_cnots(random, m, 10));
+    }
+    let ends = flushed(&circuit.gates);
+    let without = Circuit {
+        gates: without_z(&circuit.gates),
+        ..circuit.clone()
+    };
+    let sums = without.full_sum().amplitudes();
+    let shifted = (0..sums.len()).map(|s| sums[s ^ joined(m, ends) as usize]);
+    same(
+        "S with Z gates, and without at the string with them added",
+        circuit.full_sum().amplitudes(),
+        shifted.collect(),
+    )
+    .map_err(|difference| format!("{difference} after {circuit:?}"))?;
+    let mut alone = circuit.gates;
+    alone.retain(|gate| matches!(gate, Gate::Z(_)));
+    Ok(ends != flushed(&alone))
+}
+
+/// The law by which document 001 has Z gates as bit flips, on the full sum.
+fn flushed_z_gates(checks: &mut Checks, random: &mut Random, seed: u64) {
+    for m in 1..=4 {
+        let mut moved = 0;
+        for number in 0..25 {
+            let outcome = flushed_sums(random, m);
+            moved += usize::from(outcome == Ok(true));
+            let name = format!("Z gates flushed to the end, seed {seed}, m = {m}, circuit {number}");
+            checks.tally.check(&name, outcome.map(|_| ()));
+        }
+        let name = format!("Z gates that CNOTs have moved, seed {seed}, m = {m}");
+        checks.tally.equal(&name, moved >= 5, m > 1);
+    }
 }
 
 /// The law by which the program opens sums, on the full sum.
@@ -268,5 +313,6 @@ pub fn check(checks: &mut Checks) {
             }
         }
         carried_starts(checks, &mut random, seed);
+        flushed_z_gates(checks, &mut random, seed);
     }
 }

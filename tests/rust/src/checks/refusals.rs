@@ -7,7 +7,7 @@ mod pairs;
 
 use crate::Checks;
 use crate::circuits::in_layers;
-use waitfield_checks::gates::{Colour, Gate};
+use waitfield_checks::gates::{Colour, Gate, Spot};
 use waitfield_checks::model::{HISTORY, Model, listing};
 use waitfield_checks::script::Script;
 
@@ -43,6 +43,12 @@ const GATE: Gate = Gate::Ccz {
     blue: 2,
     green: 1,
 };
+
+/// A gate that is never refused by 5 or by 10.
+const Z: Gate = Gate::Z(Spot {
+    colour: Colour::Blue,
+    position: 1,
+});
 
 fn begin(script: &mut Script, moment: Moment) {
     script.case(format!("{moment:?}: lines before"));

@@ -1,9 +1,9 @@
 //! Starting strings (02, request e). A start gives every basis string its sign before the first gate, whenever it is
 //! given: by hand, by the full sum and the elimination, and by the program's own sums.
 
-mod by_hand;
+pub mod by_hand;
 mod every_line;
-mod every_way;
+pub mod every_way;
 
 use crate::Checks;
 use crate::readouts::{counted, pairs, part};
@@ -12,9 +12,9 @@ use waitfield_checks::model::Circuit;
 use waitfield_checks::program::Program;
 use waitfield_checks::random::Random;
 
-/// A start carried over gates to the end of a circuit: a CNOT adds its bit at the target to its bit at the control. The
-/// sum of a start at s is that of zeros at s with this string added. The program goes by this law; the reference and
-/// the elimination do not know it.
+/// A start carried over gates to the end of a circuit: a CNOT adds its bit at the target to its bit at the control, and
+/// the other gates leave it. The sum of a start at s is that of zeros at s with this string added. The program goes by
+/// this law; the reference and the elimination do not know it.
 pub fn carried(start: Strings, gates: &[Gate]) -> Strings {
     let mut strings = start;
     for gate in gates {
@@ -58,12 +58,12 @@ pub fn given_anywhere(random: &mut Random, circuit: &Circuit) -> String {
     text(&given(circuit, random.below(circuit.gates.len() + 1)))
 }
 
-fn text(lines: &[String]) -> String {
+pub fn text(lines: &[String]) -> String {
     lines.iter().map(|line| format!("{line}\n")).collect()
 }
 
 /// Random gates, half of them CNOTs.
-fn with_cnots(random: &mut Random, m: usize, count: usize) -> Vec<Gate> {
+pub fn with_cnots(random: &mut Random, m: usize, count: usize) -> Vec<Gate> {
     let gate = |random: &mut Random| match random.once_in(2) {
         true => random.cnot(m),
         false => random.gate(m),

@@ -24,6 +24,22 @@ const NO_FORM: &[&str] = &[
     "(cnot)", "(cnot r)", "(cnot r 1)", "(cnot r 1 2 3)", "(cnot 1 2)", "(cnot 1 2 r)", "(cnot (r 1) (r 2))",
     "(cnot x 1 2)", "(cnot red 1 2)", "(cnot r 01 2)", "(cnot r 1 02)", "(cnot r  1 2)", "(cnot rb 1 2)", "(cnotr 1 2)",
     "(cnot r 1 2 )", "(cno r 1 2)", "(cnot (r) 1 2)", "(cnot r 1 (2))",
+    // z
+    "(z)", "(z )", "( z)", "z", "(z r 1)", "(z 1)", "(z r)", "(z 1 r)", "(z (r))", "(z (1))", "(z ())", "(z (1 r))",
+    "(z (r 1) (b 1))", "(z (r 1) (r 1))", "(z (r 1) 1)", "(z (r 1 1))", "(z (r b 1))", "(z (r (1)))", "(z ((r 1)))",
+    "(z (x 1))", "(z (rr 1))", "(z (red 1))", "(z (0 1))", "(z (r 01))", "(z (r 00))", "(z (r a))", "(z (r 1a))",
+    "(z (r1))", "(z(r 1))", "(z  (r 1))", "(z ( r 1))", "(z (r 1 ))", "(z (r  1))", "(z (r 1) )", "( z (r 1))",
+    " (z (r 1))", "(z (r 1)) ", "(z (r 1)", "(z r 1))", "z (r 1)", "(z (r 1)))", "((z (r 1)))", "(z (r 1))z",
+    "(z (r 1))(z (r 1))", "(z (r 1)) (z (r 1))", "(zz (r 1))", "(cz (r 1) )", "(czz (r 1))", "(x (r 1))", "(y (r 1))",
+    "(s (r 1))", "(t (r 1))", "(h (r 1))", "(2 (r 1))", "(z z)", "(z (z 1))", "(z (r z))",
+    "(layer (z))", "(layer (z ))", "(layer z)", "(layer z (r 1))", "(layer (z r 1))", "(layer (z 1))",
+    "(layer (z (r)))", "(layer (z ()))", "(layer (z (1 r)))", "(layer (z (r 1) (b 1)))", "(layer (z (r 1 1)))",
+    "(layer (z ((r 1))))", "(layer (z (x 1)))", "(layer (z (r 01)))", "(layer (z (r 1)", "(layer (z (r 1))",
+    "(layer (z (r 1)) )", "(layer (z (r 1))(z (b 1)))", "(layer (z (r 1))  (z (b 1)))", "(layer (z (r 1)) z)",
+    "(layer (zz (r 1)))", "(layer (z  (r 1)))", "(layer (z(r 1)))", "(layer ( z (r 1)))", "(layer (z (r 1) ))",
+    "(layer(z (r 1)))", "(layer (z (r 1)) (z r 1))", "(layer (z r 1) (z (r 1)))", "(layer (ccz 1 1 1) (z (r 2) (b 2)))",
+    "(layer (z (r 1)) (undo 1))", "(layer (z (r 1)) (layer (z (b 1))))", "(layer ((z (r 1))))", "(layer (z (r 1))))",
+    "(layer (x (r 1)))", "(layer (cz (r 1)))", "(layer (z (g 1)) (cz (r 1)))", "(layer (ccz 1 1 1) (z))",
     // layer
     "(layer )", "(layer 1)", "(layer ccz 1 1 1)", "(layer (undo 1))", "(layer (circuit 1))",
     "(layer (layer (ccz 1 1 1)))", "(layer (terms))", "(layer (step 1))", "(layer (amp r 00 00 00))", "(layer ())",
@@ -68,12 +84,16 @@ const ONE_COLOUR_TWICE: &[&str] = &[
     "(layer (cz (b 1) (b 1)) (ccz 1 1 1))",
     "(layer (cnot r 1 1) (cz (g 1) (g 2)))",
     "(layer (ccz 99 0 1) (cz (g 1) (g 2)))",
+    "(layer (z (r 1)) (cz (g 1) (g 2)))",
+    "(layer (cz (g 1) (g 2)) (z (g 1)))",
+    "(layer (z (r 0)) (cz (b 2) (b 1)) (z (r 99)))",
 ];
 
 #[rustfmt::skip]
 const OTHER_BYTES: &[&[u8]] = &[
     b"\0", b"\r", b"\t", b"\x0b", b"\x0c", b"\x1b", b"-", b"A", b"\x7f", b"\x80", b"\xff", b"(terms)\r", b"\r(terms)",
     b"(terms)\0", b"\0(terms)", b"(step\t1)", b"(step -1)", b"(step +1)", b"(step 1.0)", b"(Step 1)", b"(STEP 1)",
+    b"(Z (r 1))", b"(z (R 1))", b"(z (r 1))\r", b"(z (r -1))", b"(z\t(r 1))", b"(layer (Z (r 1)))", b"(z [r 1])",
     b"[step 1]", b"(step 1);", b"(step '1')", b"(circuit 1_0)", b"(circuit 1,0)", b"(circuit 0x1)X", b"{terms}", b"(terms`)",
     b"(terms/)", b"(terms:)", b"(terms@)", b"(terms!)", b"(terms*)", b"\xef\xbb\xbf(terms)", b"(terms\xc2\xa0)",
     "(cz (r 1) (b \u{0661}))".as_bytes(), "(terms\u{3000})".as_bytes(),

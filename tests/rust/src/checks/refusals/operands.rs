@@ -1,7 +1,7 @@
 //! Refusals 6 to 14 at the edges of their ranges.
 
 use super::Moment::{Fresh, Full, FullOpen, Held, OneOpen, Open};
-use super::{GATE, Refused, refused};
+use super::{GATE, Refused, Z, refused};
 use waitfield_checks::layers::layer;
 
 /// Every form but `circuit`, `step` and `drop`, with operands that a circuit of two positions takes.
@@ -10,7 +10,12 @@ const TAKEN: &[&str] = &[
     "(cz (r 1) (b 1))",
     "(cz (g 2) (b 1))",
     "(cnot r 1 2)",
+    "(z (r 1))",
+    "(z (b 2))",
+    "(z (g 2))",
     "(layer (ccz 1 1 1))",
+    "(layer (z (b 1)))",
+    "(layer (z (r 1)) (z (b 1)) (z (g 1)) (z (g 2)))",
     "(undo 1)",
     "(start 00 00 00)",
     "(start 10 11 01)",
@@ -51,6 +56,26 @@ const OUT_OF_RANGE: &[&str] = &[
     "(cnot b 3 1)",
     "(cnot g 1 3)",
     "(cnot g 1 18446744073709551617)",
+    "(z (r 0))",
+    "(z (b 0))",
+    "(z (g 0))",
+    "(z (r 3))",
+    "(z (b 3))",
+    "(z (g 3))",
+    "(z (r 16))",
+    "(z (b 17))",
+    "(z (g 18))",
+    "(z (r 257))",
+    "(z (b 65537))",
+    "(z (g 4294967297))",
+    "(z (r 18446744073709551617))",
+    "(z (b 340282366920938463463374607431768211457))",
+    "(layer (z (r 0)))",
+    "(layer (z (g 3)))",
+    "(layer (z (r 1)) (z (b 3)))",
+    "(layer (z (r 0)) (z (b 1)))",
+    "(layer (ccz 1 1 1) (z (r 18446744073709551618)))",
+    "(layer (z (b 4294967298)) (cnot r 1 2))",
     "(layer)",
     "(layer (ccz 3 1 1))",
     "(layer (ccz 1 1 1) (ccz 2 2 3))",
@@ -80,6 +105,8 @@ const ONTO_ITSELF: &[&str] = &[
     "(layer (cnot r 1 1))",
     "(layer (ccz 1 1 1) (cnot b 2 2))",
     "(layer (cnot b 2 2) (cnot r 1 2))",
+    "(layer (z (b 1)) (cnot b 2 2))",
+    "(layer (cnot g 1 1) (z (r 2)))",
 ];
 
 const OTHER_LENGTH: &[&str] = &[
@@ -131,6 +158,21 @@ const TOUCHED_TWICE: &[&str] = &[
     "(layer (cnot g 2 1) (cz (r 1) (g 2)))",
     "(layer (cnot r 1 2) (cnot b 1 2) (cnot g 1 2) (ccz 1 1 1))",
     "(layer (cz (r 1) (b 1)) (cz (g 1) (r 2)) (cz (b 2) (g 1)))",
+    "(layer (z (r 1)) (z (r 1)))",
+    "(layer (z (b 2)) (z (b 2)))",
+    "(layer (z (g 1)) (z (b 1)) (z (g 1)))",
+    "(layer (z (r 1)) (ccz 1 2 2))",
+    "(layer (ccz 1 2 2) (z (b 2)))",
+    "(layer (z (g 2)) (ccz 1 2 2))",
+    "(layer (z (r 1)) (cz (r 1) (b 1)))",
+    "(layer (z (b 1)) (cz (r 1) (b 1)))",
+    "(layer (cz (g 2) (r 1)) (z (g 2)))",
+    "(layer (cz (g 2) (r 1)) (z (r 1)))",
+    "(layer (z (r 1)) (cnot r 1 2))",
+    "(layer (z (r 2)) (cnot r 1 2))",
+    "(layer (cnot b 2 1) (z (b 2)))",
+    "(layer (cnot b 2 1) (z (b 1)))",
+    "(layer (z (g 1)) (z (r 1)) (z (r 2)) (z (b 1)) (z (b 2)) (z (g 2)) (z (g 1)))",
 ];
 
 fn all(lines: &[&str], moments: &[super::Moment], number: u32, why: &str) -> Vec<Refused> {
@@ -143,6 +185,7 @@ fn long_operands() -> Vec<Refused> {
     for length in [17, 18, 32, 33, 64, 66, 128, 258, 300, 1000] {
         let (number, bits) = ("9".repeat(length), "0".repeat(length));
         lines.push(refused(format!("(undo {number})"), &[Held, Full], 9, "a long number"));
+        lines.push(refused(format!("(z (g {number}))"), &[Held, Full], 9, "a long number"));
         lines.push(refused(
             format!("(circuit 1{bits})"),
             &[Fresh, Held],
@@ -189,9 +232,16 @@ pub fn table() -> Vec<Refused> {
         refused("(undo 4096)", &[Held], 12, "more than held"),
         refused(layer(&[GATE; 49]), &no_sum, 9, "49 gates"),
         refused(layer(&[GATE; 60]), &no_sum, 9, "60 gates"),
+        refused(layer(&[Z; 49]), &no_sum, 9, "49 Z gates"),
+        refused(layer(&[Z; 90]), &no_sum, 9, "90 Z gates"),
         refused(GATE.to_string(), &[Full], 13, "no free place"),
         refused("(cz (r 1) (b 1))", &[Full], 13, "no free place"),
         refused("(cnot r 1 2)", &[Full], 13, "no free place"),
+        refused("(z (r 1))", &[Full], 13, "no free place"),
+        refused("(z (g 2))", &[Full], 13, "no free place"),
+        refused("(layer (z (b 2)))", &[Full], 13, "no free place"),
+        refused("(layer (z (b 2)) (z (r 1)))", &[Full], 13, "no free place"),
+        refused("(layer (ccz 1 2 1) (z (b 1)))", &[Full], 13, "no free place"),
         refused("(layer (ccz 1 2 1))", &[Full], 13, "no free place"),
         refused("(layer (ccz 1 2 1) (ccz 2 1 2))", &[Full], 13, "no free place"),
         refused(
@@ -213,6 +263,7 @@ pub fn table() -> Vec<Refused> {
     lines.extend(all(TOUCHED_TWICE, &no_sum, 14, "a position twice"));
     for count in [2, 3, 24, 25, 47, 48] {
         lines.push(refused(layer(&vec![GATE; count]), &no_sum, 14, "one gate many times"));
+        lines.push(refused(layer(&vec![Z; count]), &no_sum, 14, "one Z many times"));
     }
     lines.extend(long_operands());
     lines

@@ -71,13 +71,14 @@ const WITH_CCZ: [(&[&str], Amplitudes); 2] = [
 ];
 
 /// All three strings of m positions.
-fn every_string(m: usize) -> impl Iterator<Item = Strings> {
+pub fn every_string(m: usize) -> impl Iterator<Item = Strings> {
     pairs(m).flat_map(move |[red, blue]| (0..1 << m).map(move |green| [red, blue, green]))
 }
 
-/// The sums of a circuit of CNOTs alone whose start ends as a string: all is at that string. S is 2^(3m) there and 0
-/// elsewhere, a count is the most that it can be if the read colours have that string and else 0.
-fn all_at(m: usize, ends: Strings, colour: Colour, output: Strings) -> [Asked; 3] {
+/// The sums of a circuit of CNOTs alone whose start ends as a string, or of CNOTs and Z gates that shift the sums by
+/// it: all is at that string. S is 2^(3m) there and 0 elsewhere, a count is the most that it can be if the read colours
+/// have that string and else 0.
+pub fn all_at(m: usize, ends: Strings, colour: Colour, output: Strings) -> [Asked; 3] {
     let agrees = |colour: &Colour| output[colour.number()] == ends[colour.number()];
     let number = |read: &[Colour], most: u64| if read.iter().all(agrees) { most } else { 0 };
     let s = number(&COLOURS, 1 << (3 * m)) as i64;
@@ -86,7 +87,7 @@ fn all_at(m: usize, ends: Strings, colour: Colour, output: Strings) -> [Asked; 3
     paired(opened(m, colour, output), one_colour::ends(m, s, t, n))
 }
 
-fn ask(script: &mut Script, m: usize, [line, answer]: Asked) {
+pub fn ask(script: &mut Script, m: usize, [line, answer]: Asked) {
     script.line(line, format!("(left {})", 1 << m));
     script.line("(step 65536)", answer);
 }

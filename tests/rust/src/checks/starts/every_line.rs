@@ -6,6 +6,7 @@ use crate::Checks;
 use crate::circuits::sum;
 use crate::grammar::covered;
 use crate::one_colour::one_of_each;
+use crate::z_gates::shift;
 use waitfield_checks::layers::layer;
 use waitfield_checks::model::{Circuit, listing};
 use waitfield_checks::random::Random;
@@ -19,8 +20,8 @@ const LINES: usize = 24;
 /// Refused lines one after another.
 const TRIES: usize = 4;
 
-/// Lines with a start or a CNOT in them that circuits of 2 to 4 positions with fewer than 4,096 gates refuse.
-const REFUSED: [(&str, &str); 12] = [
+/// Lines with a start, a CNOT or a Z in them that circuits of 2 to 4 positions with fewer than 4,096 gates refuse.
+const REFUSED: [(&str, &str); 17] = [
     ("(start 1 1 1)", "(no 11)"),
     ("(start 10110 01101 11011)", "(no 11)"),
     ("(start 12 00 00)", "(no 4)"),
@@ -32,6 +33,11 @@ const REFUSED: [(&str, &str); 12] = [
     ("(layer (cnot r 1 2) (cnot r 2 1))", "(no 14)"),
     ("(layer (cnot b 2 1) (cz (r 1) (r 2)))", "(no 5)"),
     ("(layer (cnot g 2 1) (cnot b 1 5))", "(no 9)"),
+    ("(z (r 5))", "(no 9)"),
+    ("(z (b 1) (g 1))", "(no 4)"),
+    ("(layer (z (g 1)) (z (g 1)))", "(no 14)"),
+    ("(layer (z (r 1)) (z (b 0)))", "(no 9)"),
+    ("(layer (z (b 2)) (cz (g 1) (g 2)))", "(no 5)"),
     ("(undo 4096)", "(no 12)"),
 ];
 
@@ -71,14 +77,14 @@ fn any_line(script: &mut Script, random: &mut Random, circuit: &mut Circuit) {
     }
 }
 
-/// The terms, which are those of the gates alone, and a sum of each kind: mostly at the string that the start ends as,
-/// where it is most often not 0.
+/// The terms, which are those of the gates alone, and a sum of each kind: mostly at the string that start and Z gates
+/// shift the sums by, where it is most often not 0.
 fn seen(script: &mut Script, random: &mut Random, circuit: &Circuit) {
     let Circuit { m, gates, start } = circuit;
     let terms = FullSum::of(*m, gates).terms();
     script.line("(terms)", listing(&terms.expect("the reference's own checks say so")));
-    let ends = carried(*start, gates);
-    let output = [ends, ends, *start, random.strings(*m)][random.below(4)];
+    let shifted = shift(*start, gates);
+    let output = [shifted, shifted, *start, random.strings(*m)][random.below(4)];
     for [line, answer] in one_of_each(circuit, random.colour(), output) {
         sum(script, random, *m, line, answer);
     }

@@ -3,6 +3,7 @@
 use super::{carried, given, start_line, text, with_cnots};
 use crate::Checks;
 use crate::one_colour::{one_of_each, opened};
+use crate::z_gates::shift;
 use waitfield_checks::gates::{COLOURS, Gate, Strings, added};
 use waitfield_checks::model::{Circuit, HISTORY};
 use waitfield_checks::program::Program;
@@ -47,7 +48,7 @@ fn ways(random: &mut Random, circuit: &Circuit, more: &[Gate]) -> Vec<(&'static 
 }
 
 /// The program's answers that end the sums opened behind some lines.
-fn ended(program: &Program, before: &[String], opened: &[String]) -> Result<Vec<String>, String> {
+pub fn ended(program: &Program, before: &[String], opened: &[String]) -> Result<Vec<String>, String> {
     let sums: String = opened.iter().map(|line| format!("{line}\n(step 65536)\n")).collect();
     let output = program.run((text(before) + &sums).as_bytes())?;
     let ends = |line: &String| ["(amp ", "(part ", "(one "].iter().any(|word| line.starts_with(word));
@@ -56,13 +57,13 @@ fn ended(program: &Program, before: &[String], opened: &[String]) -> Result<Vec<
 }
 
 /// The lines that open sums of every kind on every colour at some strings.
-fn opened_at(m: usize, outputs: &[Strings]) -> Vec<String> {
+pub fn opened_at(m: usize, outputs: &[Strings]) -> Vec<String> {
     let at = |&output: &Strings| COLOURS.map(|colour| opened(m, colour, output));
     outputs.iter().flat_map(at).flatten().collect()
 }
 
 /// The answers that end them, by the full sum or the elimination.
-fn ended_at(circuit: &Circuit, outputs: &[Strings]) -> Vec<String> {
+pub fn ended_at(circuit: &Circuit, outputs: &[Strings]) -> Vec<String> {
     let at = |&output: &Strings| COLOURS.map(|colour| one_of_each(circuit, colour, output));
     let asked = outputs.iter().flat_map(at).flatten();
     asked.map(|[_, answer]| answer).collect()
@@ -74,8 +75,7 @@ fn in_every_way(checks: &mut Checks, random: &mut Random, seed: u64, (m, count, 
     let [gates, more] = [count, undone].map(|count| with_cnots(random, m, count));
     let start = random.strings(m);
     let circuit = Circuit { m, gates, start };
-    let ends = carried(start, &circuit.gates);
-    let outputs = [ends, random.strings(m)];
+    let outputs = [shift(start, &circuit.gates), random.strings(m)];
     let expected = ended_at(&circuit, &outputs);
     let mut check = |name: &str, before: &[String], outputs: &[Strings]| {
         let name = format!("a start {name}, seed {seed}, m = {m}");
@@ -85,6 +85,7 @@ fn in_every_way(checks: &mut Checks, random: &mut Random, seed: u64, (m, count, 
     for (name, before) in ways(random, &circuit, &more) {
         check(name, &before, &outputs);
     }
+    let ends = carried(start, &circuit.gates);
     let zeros = Circuit {
         start: [0; 3],
         ..circuit
