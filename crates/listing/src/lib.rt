@@ -1,6 +1,7 @@
 // The terms of a polynomial in order: CCZ terms by red, blue and green position, then CZ terms red-blue, red-green, blue-green, then Z terms.
 // The listing falls into 577 cells, each what one word holds under a mask, so that a word of terms is passed at one step.
 ghost use mathlib.Core.Path.{_≡_};
+ghost use Prim.Native.Nat.{_<_};
 ghost use lib.ListN.{length, getD};
 ghost use Rattle.gf2.specs.Words.{bitAt};
 ghost use Rattle.circuit.specs.Polynomial.{Polynomial};
@@ -107,8 +108,9 @@ fn mask_of(n: usize) -> u32
     GREEN
 }
 
-// The terms of cell `n`, a bit for each; a number past the last cell is taken for that one.
+// The terms of cell `n`, a bit for each.
 fn cell(words: &[u32; WORDS], n: usize) -> u32
+    requires { ⌜ n < 577 ⌝ }
     ensures { λ r. ⌜ r ≡ cellWord (now (words .entry)) n ⌝ }
 {
     words[INDICES * red_of(n) + blue_of(n)] & mask_of(n)
@@ -129,7 +131,8 @@ pub fn count(words: [u32; WORDS]) -> usize
 
 // Where place `n` of the listing is; a place past its end is past the end of the last cell.
 fn find(words: &[u32; WORDS], n: usize) -> Place
-    ensures { λ r. ⌜ entryOf (concatBelow 577 (cellTerms (now (words .entry)))) n ≡ entryOf (cellTerms (now (words .entry)) (r .cell)) (r .left) ⌝ }
+    ensures cell { λ r. ⌜ r .cell < 577 ⌝ }
+    ensures place { λ r. ⌜ entryOf (concatBelow 577 (cellTerms (now (words .entry)))) n ≡ entryOf (cellTerms (now (words .entry)) (r .cell)) (r .left) ⌝ }
 {
     let mut left = n;
     let mut at = 0;

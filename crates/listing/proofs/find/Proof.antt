@@ -27,9 +27,11 @@ cast-here : tie.Need-cast-here Inv-loop μ-loop
 cast-here c = omega (arith, ones-le 32 (c .cell .result) (omega arith))
 
 returns : tie.Need-returns Inv-loop μ-loop
-returns c =
-    entry-inside (c .before .before .before .before .args .words .now) (c .before .before .before .before .args .n) (c .before .before .before .loop .at)
-    (c .before .before .before .loop .left) (omega arith) (c .before .before .before .loop .inv .1) (rw (c .before .cell .ensures) at (c .if1 .taken))
+returns c = (
+  omega arith,
+  entry-inside (c .before .before .before .before .args .words .now) (c .before .before .before .before .args .n) (c .before .before .before .loop .at)
+      (c .before .before .before .loop .left) (omega arith) (c .before .before .before .loop .inv .1) (rw (c .before .cell .ensures) at (c .if1 .taken)),
+)
 
 add-at : tie.Need-add-at Inv-loop μ-loop
 add-at c = search needs
@@ -45,8 +47,10 @@ loop-again c = (
 
 returns-2 : tie.Need-returns-2 Inv-loop μ-loop
 returns-2 c =
-    let last : c .before .loop .at ≡ 576 = omega arith in
-    rw last (entry-last (c .before .before .args .words .now) (c .before .before .args .n) (c .before .loop .left) (rw last at (c .before .loop .inv .1)))
+    let last : c .before .loop .at ≡ 576 = omega arith in (
+      omega arith,
+      rw last (entry-last (c .before .before .args .words .now) (c .before .before .args .n) (c .before .loop .left) (rw last at (c .before .loop .inv .1))),
+    )
 
 pub find-spec : {M : Type 1} → statement M
 find-spec =

@@ -26,7 +26,7 @@ returns c f e =
     let at = found .find .result .cell in
     let left = found .find .result .left in
     sym (entry-past words at left (rw (read .cell .ensures) at (c .if1 .taken)))
-    ∙ sym (found .find .ensures)
+    ∙ sym (found .find .ensures .1)
     ∙ entry-listing f words (start .args .n) e
 
 red-of-requires : tie.Need-red-of-requires
@@ -55,7 +55,7 @@ returns-2 c f e =
     let left = found .find .result .left in
     ap Listed (rw (selected .select .ensures, blue .blue-of .ensures, red .red-of .ensures, read .cell .ensures) at (c .gate-of-term .ensures))
     ∙ sym (entry-here words at left (rw (read .cell .ensures) at (tested .if1 .left)))
-    ∙ sym (found .find .ensures)
+    ∙ sym (found .find .ensures .1)
     ∙ entry-listing f words (start .args .n) e
 
 pub term-at-spec : {M : Type 1} → statement M
