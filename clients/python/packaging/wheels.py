@@ -74,7 +74,9 @@ def _wheel(folder: str, contents: dict[str, bytes]) -> str:
     return name
 
 
-def build_wheel(wheel_directory: str, config_settings: Settings = None, metadata_directory: Optional[str] = None) -> str:
+def build_wheel(
+    wheel_directory: str, config_settings: Settings = None, metadata_directory: Optional[str] = None
+) -> str:
     """The package itself."""
     files = _files(PACKAGE)
     return _wheel(wheel_directory, {file.relative_to(FOLDER).as_posix(): file.read_bytes() for file in files})

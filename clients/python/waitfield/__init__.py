@@ -16,7 +16,7 @@ from .errors import (
     WaitfieldError,
 )
 from .gates import Ccz, Cnot, Cz, Gate, Spot, Term, Z
-from .qasm import from_qasm, read_qasm
+from .qasm import Colours, from_qasm, read_mapping, read_qasm
 from .session import Session
 
 __version__ = "1.0.0"
@@ -26,6 +26,7 @@ __all__ = [
     "Ccz",
     "Circuit",
     "Cnot",
+    "Colours",
     "ColoursError",
     "Comparison",
     "CountsError",
@@ -48,5 +49,6 @@ __all__ = [
     "compare",
     "from_qasm",
     "read_counts",
+    "read_mapping",
     "read_qasm",
 ]

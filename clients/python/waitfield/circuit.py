@@ -3,7 +3,6 @@
 from __future__ import annotations
 
 from dataclasses import dataclass
-from types import MappingProxyType
 from typing import Mapping, Optional, Sequence
 
 from .errors import StringError
@@ -31,9 +30,6 @@ class Circuit:
     digits: tuple[Optional[Spot], ...]
     # The numbers of the gates, from 0, before which a barrier stands.
     barriers: frozenset[int] = frozenset()
-
-    def __post_init__(self) -> None:
-        object.__setattr__(self, "qubits", MappingProxyType(dict(self.qubits)))
 
     @property
     def layers(self) -> list[list[Gate]]:
@@ -81,7 +77,7 @@ class Circuit:
         leftmost digit is the first classical bit, or the last, as some tools print it.
         """
         digits = self.digits_read(unread, leftmost)
-        given = bits.replace(" ", "").replace("_", "")
+        given = plain_digits(bits)
         if not given or given.strip("01"):
             raise StringError(f"{bits!r} is no bit string")
         if len(given) != len(digits):
@@ -119,6 +115,11 @@ class Circuit:
 
     def _string(self, colour: str, digits: Mapping[Spot, str]) -> str:
         return "".join(digits.get(Spot(colour, position), "0") for position in range(1, self.m + 1))
+
+
+def plain_digits(bits: str) -> str:
+    """A measured string without the spaces and underscores that tools put between registers."""
+    return bits.replace(" ", "").replace("_", "")
 
 
 def _from_left(digits: list[Optional[Spot]], leftmost: str) -> list[Optional[Spot]]:

@@ -3,19 +3,19 @@
 from __future__ import annotations
 
 import argparse
-import json
 import os
+import re
 import sys
 from fractions import Fraction
 from typing import NoReturn, Optional, Sequence
 
 from . import __version__
-from .circuit import LEFTMOST, Circuit
+from .circuit import LEFTMOST, Circuit, plain_digits
 from .counts import Comparison, compare, read_counts
-from .errors import ColoursError, StringError, WaitfieldError
+from .errors import StringError, WaitfieldError
 from .gates import COLOURS
 from .progress import Bar
-from .qasm import Colours, from_qasm, read_qasm
+from .qasm import from_qasm, read_mapping, read_qasm
 from .session import Session
 from .written import dyadic, over_power, table, with_decimal
 
@@ -105,8 +105,9 @@ def _parser() -> argparse.ArgumentParser:
 
 
 def _fraction(text: str) -> Fraction:
+    """A threshold: a whole number, a decimal, or a quotient. Without exponents, whose powers of ten might not end."""
     try:
-        return Fraction(text)
+        return Fraction(text if re.fullmatch(r"[+-]?[0-9]{1,40}([./][0-9]{1,40})?", text) else "")
     except (ValueError, ZeroDivisionError):
         raise argparse.ArgumentTypeError(f"{text!r} is no number") from None
 
@@ -179,29 +180,20 @@ def _unread(given: argparse.Namespace) -> str:
 
 
 def _circuit(given: argparse.Namespace) -> Circuit:
-    colours = None if given.colours is None else _colours(given.colours)
+    colours = None if given.colours is None else read_mapping(_text(given.colours))
     if given.file == "-":
         return from_qasm(sys.stdin.read(), colours=colours, file="standard input")
     return read_qasm(given.file, colours=colours)
-
-
-def _colours(path: str) -> Colours:
-    """A mapping from a file. A qubit may be named by its number there too."""
-    try:
-        colours = json.loads(_text(path))
-    except ValueError as error:
-        raise ColoursError(f"{path} is no JSON: {error}") from error
-    if not isinstance(colours, dict):
-        raise ColoursError(f"{path} is no JSON object of qubits and colours")
-    return {int(qubit) if qubit.isdecimal() else qubit: spot for qubit, spot in colours.items()}
 
 
 def _text(path: str) -> str:
     try:
         with open(path, encoding="utf-8-sig") as file:
             return file.read()
-    except UnicodeDecodeError:
-        raise WaitfieldError(f"{path} is no text in UTF-8") from None
+    except OSError as error:
+        raise WaitfieldError(f"{path} cannot be read: {error.strerror}") from error
+    except UnicodeDecodeError as error:
+        raise WaitfieldError(f"{path} is no text in UTF-8") from error
 
 
 def _asked(circuit: Circuit, bits: Sequence[str], unread: str, leftmost: str) -> list[tuple[str, tuple[str, ...]]]:
@@ -212,7 +204,7 @@ def _asked(circuit: Circuit, bits: Sequence[str], unread: str, leftmost: str) ->
     asked = []
     rest = list(bits)
     while rest:
-        measured = len(rest[0]) == digits and circuit.is_measured(unread)
+        measured = len(plain_digits(rest[0])) == digits and circuit.is_measured(unread)
         taken = 1 if measured else len(colours)
         given, rest = rest[:taken], rest[taken:]
         if len(given) < taken:

@@ -2,13 +2,13 @@
 
 from __future__ import annotations
 
-import json
 from dataclasses import dataclass
 from fractions import Fraction
 from typing import Mapping, Optional
 
 from .circuit import Circuit
 from .errors import CountsError
+from .json_object import json_object
 from .session import Progress, Session
 
 
@@ -62,7 +62,7 @@ def compare(
     The keys of `counts` are strings as `Circuit.strings` takes them. `unread` names the colours that were not read,
     one or two of r, b, g. The circuit is loaded into the session. `progress(done, all)` is called after each string.
     """
-    shots = _checked(counts)
+    shots = sum(_checked(counts).values())
     strings = _by_colours(circuit, list(counts), unread, leftmost)
     session.load(circuit)
     rows = []
@@ -78,34 +78,22 @@ def compare(
 def read_counts(text: str) -> dict[str, int]:
     """The counts in a JSON text: an object that has a whole number for each measured string."""
     try:
-        counts = json.loads(text, object_pairs_hook=_once)
-    except (ValueError, RecursionError) as error:
-        raise CountsError(f"the counts are no JSON: {error}") from error
-    if not isinstance(counts, dict):
-        raise CountsError("the counts are no JSON object of bit strings and whole numbers")
-    _checked(counts)
-    return counts
+        found = json_object(text)
+    except ValueError as error:
+        raise CountsError(f"the counts are not read as a JSON object: {error}") from error
+    return _checked(found)
 
 
-def _once(pairs: list[tuple[str, object]]) -> dict[str, object]:
-    """An object's entries. Of two with one name JSON would keep the second alone."""
-    found = dict(pairs)
-    if len(found) != len(pairs):
-        names = [name for name, _ in pairs]
-        twice = next(name for name in names if names.count(name) > 1)
-        raise CountsError(f"{twice!r} is given twice")
-    return found
-
-
-def _checked(counts: Mapping[str, int]) -> int:
-    """The number of all shots."""
+def _checked(counts: Mapping[str, object]) -> dict[str, int]:
+    """Counts of which each is a whole number, and not all are 0."""
+    found: dict[str, int] = {}
     for bits, shots in counts.items():
         if isinstance(shots, bool) or not isinstance(shots, int) or shots < 0:
             raise CountsError(f"{bits!r} has {shots!r} shots, which is no whole number from 0 on")
-    total = sum(counts.values())
-    if total == 0:
+        found[bits] = shots
+    if not any(found.values()):
         raise CountsError("there are no shots")
-    return total
+    return found
 
 
 def _by_colours(circuit: Circuit, measured: list[str], unread: str, leftmost: str) -> dict[str, tuple[str, ...]]:

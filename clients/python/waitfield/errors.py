@@ -32,7 +32,10 @@ class Refused(WaitfieldError):
         self.number = number
         self.line = line
         self.meaning = MEANINGS[number]
-        super().__init__(f"{line} is refused by {number}: {self.meaning}")
+        super().__init__(number, line)
+
+    def __str__(self) -> str:
+        return f"{self.line} is refused by {self.number}: {self.meaning}"
 
 
 class SessionError(WaitfieldError):
@@ -58,7 +61,10 @@ class QasmError(WaitfieldError):
         self.file = file
         self.line = line
         self.reason = reason
-        super().__init__(f"{file}:{line}: {reason}")
+        super().__init__(file, line, reason)
+
+    def __str__(self) -> str:
+        return f"{self.file}:{self.line}: {self.reason}"
 
 
 class ColoursError(WaitfieldError):

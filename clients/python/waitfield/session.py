@@ -209,12 +209,13 @@ class Session:
         self, slices: int, steps: Optional[int], progress: Optional[Progress]
     ) -> Union[Amplitude, Readout]:
         """Works the open sum to its end, in steps of one size. If that is interrupted, the sum is dropped."""
-        if steps is None:
-            steps = 1 if progress is None else STEPS_TOLD
-        size = -(-slices // steps)
         try:
+            if steps is None:
+                steps = 1 if progress is None else STEPS_TOLD
+            if steps < 1:
+                raise ValueError(f"a sum is worked in 1 step or more, not in {steps}")
             while True:
-                total = self.step(size)
+                total = self.step(-(-slices // steps))
                 if progress is not None:
                     progress(slices - self._left, slices)
                 if not isinstance(total, int):

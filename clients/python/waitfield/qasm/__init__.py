@@ -7,12 +7,12 @@ from typing import Optional, Union
 
 from ..circuit import Circuit
 from ..errors import QasmError
-from .colours import Colours, spots
+from .colours import Colours, read_mapping, spots
 from .operations import operations
 from .tokens import Reader
 from .wires import circuit_of
 
-__all__ = ["Colours", "from_qasm", "read_qasm"]
+__all__ = ["Colours", "from_qasm", "read_mapping", "read_qasm"]
 
 
 def from_qasm(text: str, *, colours: Optional[Colours] = None, file: str = "qasm") -> Circuit:

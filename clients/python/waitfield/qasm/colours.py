@@ -6,10 +6,21 @@ from typing import Mapping, Optional, Tuple, Union
 
 from ..errors import ColoursError
 from ..gates import COLOUR_NAMES, COLOURS, MOST_POSITIONS, Spot
+from ..json_object import json_object
 from .operations import Declared
 
 # A qubit by its name or by its number from 0 in the order of declaration, and its colour and position.
 Colours = Mapping[Union[str, int], Tuple[str, int]]
+
+
+def read_mapping(text: str) -> Colours:
+    """The mapping in a JSON text, an object such as {"q[0]": ["r", 1], "q[1]": ["b", 1]}. A qubit that is named by its
+    number is written as "0"."""
+    try:
+        found = json_object(text)
+    except ValueError as error:
+        raise ColoursError(f"the mapping is not read as a JSON object: {error}") from error
+    return {int(key) if key.isdecimal() and len(key) < 10 else key: _spot(key, value) for key, value in found.items()}
 
 
 def spots(qubits: Mapping[str, Declared], colours: Optional[Colours]) -> dict[str, Spot]:

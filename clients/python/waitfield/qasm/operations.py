@@ -6,6 +6,7 @@ import os
 from dataclasses import dataclass, field
 from typing import Optional, Sequence
 
+from ..gates import COLOURS, MOST_POSITIONS
 from .known import CONTROLLED, KNOWN, LIBRARY, LIBRARY_FILES, SPELLINGS, Operation, is_gate
 from .statements import (
     Barrier,
@@ -25,8 +26,10 @@ from .tokens import Place, Reader
 MOST_CALLS = 200_000
 DEEPEST = 64
 
-# More than a circuit may have, and few enough to be named one by one.
-LARGEST_REGISTER = 4096
+MOST_QUBITS = len(COLOURS) * MOST_POSITIONS
+
+# Classical bits are no part of a circuit; there may be some that nothing is measured into.
+MOST_BITS = 4096
 
 
 @dataclass(frozen=True)
@@ -97,6 +100,7 @@ class _Expansion:
     def _include(self, include: Include) -> None:
         if include.file in LIBRARY_FILES:
             return
+        self._count(include.place, len(self._including))
         path = os.path.normpath(os.path.join(os.path.dirname(include.place.file), include.file))
         if path in self._including or path == os.path.normpath(include.place.file):
             raise include.place.error(f"'{include.file}' includes itself")
@@ -114,8 +118,10 @@ class _Expansion:
         name, size, place = declaration.name, declaration.size, declaration.place
         if name in self._registers:
             raise place.error(f"'{name}' is declared twice")
-        if size is not None and size > LARGEST_REGISTER:
-            raise place.error(f"'{name}' has {size} {'qubits' if declaration.quantum else 'bits'}, which is too many")
+        if declaration.quantum and len(self.program.qubits) + (size or 1) > MOST_QUBITS:
+            raise place.error(f"too many qubits: a circuit has at most {MOST_QUBITS}")
+        if not declaration.quantum and len(self.program.bits) + (size or 1) > MOST_BITS:
+            raise place.error(f"more than {MOST_BITS} classical bits")
         self._registers[name] = declaration
         for index, single in enumerate(_singles(declaration)):
             if declaration.quantum:
@@ -207,9 +213,7 @@ class _Expansion:
         found: list[Operation],
     ) -> None:
         """The operations of a call whose operands stand for actual qubits, under the definitions before `number`."""
-        self._calls += 1
-        if self._calls > MOST_CALLS or depth > DEEPEST:
-            raise place.error("more gates, or deeper definitions, than a circuit of 4,096 gates can need")
+        self._count(place, depth)
         assert isinstance(statement, (Call, Barrier))
         qubits = tuple(self._actual(operand, actual) for operand in statement.operands)
         if isinstance(statement, Barrier):
@@ -229,6 +233,12 @@ class _Expansion:
             self._bodies[name] = body_statements(definition)
         for each in self._bodies[name]:
             self._expand(each, inner, self._numbers[name], place, depth + 1, found)
+
+    def _count(self, place: Place, depth: int) -> None:
+        """Stops what would not end in any useful time: definitions and files that double at each level."""
+        self._calls += 1
+        if self._calls > MOST_CALLS or depth > DEEPEST:
+            raise place.error(f"more than {MOST_CALLS} calls of gates, or more than {DEEPEST} inside each other")
 
     def _definition(self, call: Call, name: str, number: int) -> Definition:
         definition = self._definitions.get(name)

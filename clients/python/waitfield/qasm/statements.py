@@ -220,7 +220,10 @@ def _call(reader: Reader, place: Place, name: str) -> Call:
 def _controls(reader: Reader) -> int:
     if not reader.takes("("):
         return 1
+    place = reader.next.place
     controls = reader.whole_number("a number of controls")
+    if controls == 0:
+        raise place.error("a gate with 0 controls")
     reader.need(")")
     return controls
 

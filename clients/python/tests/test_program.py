@@ -1,0 +1,390 @@
+"""The program behind its pipes: how it may end, answer late, answer nonsense, and how it is found, closed and left."""
+
+from __future__ import annotations
+
+import errno
+import gc
+import os
+import signal
+import subprocess
+import sys
+import unittest
+from pathlib import Path
+from typing import Callable, Iterator
+from unittest import mock
+
+from waitfield import Ccz, NoAnswer, ProgramEnded, Refused, Session, SessionError, UnexpectedAnswer, Z, program
+from waitfield.program import Program, find_program
+
+from . import fakes
+from .fakes import FakeCase, answers, fake, heard, is_gone
+
+# The folder of the package.
+CLIENT = Path(__file__).resolve().parent.parent
+
+
+class EndingTest(FakeCase):
+    """Whichever way the program ends, the error says how, and which line it left without an answer."""
+
+    def assert_ended(self, session: Session, how: str, line: str = "(ccz 1 1 1)") -> None:
+        """A line is left without an answer, and every later line is told the same reason. The process is gone."""
+        reason = f"{self.program} {how}"
+        self.assert_fails(ProgramEnded, reason.replace("LINE", line), lambda: session.ccz(1, 1, 1))
+        self.assert_fails(ProgramEnded, reason.replace("LINE", line), session.terms)
+        self.assertTrue(is_gone(self.program))
+
+    def begun(self, then: str) -> Session:
+        session = self.session(answers("(ok)", then=then))
+        session.circuit(1)
+        return session
+
+    def test_a_program_that_ends_before_the_first_line(self) -> None:
+        session = self.session("")
+        self.assert_ended(session, "has ended with status 0 before it answered LINE")
+
+    def test_a_program_that_ends_in_place_of_an_answer(self) -> None:
+        self.assert_ended(self.begun(fakes.ENDS), "has ended with status 0 before it answered LINE")
+
+    def test_a_program_that_ends_between_two_lines(self) -> None:
+        session = self.begun("")
+        os.waitid(os.P_PID, fakes.process_of(self.program), os.WEXITED | os.WNOWAIT)
+        self.assert_ended(session, "has ended with status 0 before it answered LINE")
+        self.assertEqual(heard(self.program), ["(circuit 1)"])
+
+    def test_a_program_that_ends_with_a_status(self) -> None:
+        self.assert_ended(self.begun(fakes.exits(3)), "has ended with status 3 before it answered LINE")
+
+    def test_a_program_that_is_killed(self) -> None:
+        self.assert_ended(self.begun(fakes.killed(signal.SIGKILL)), "was ended by SIGKILL before it answered LINE")
+
+    def test_a_signal_without_a_name_is_told_by_its_number(self) -> None:
+        self.assert_ended(self.begun(fakes.killed(35)), "was ended by signal 35 before it answered LINE")
+
+    def test_a_program_that_is_ended_by_somebody_else(self) -> None:
+        session = self.begun(fakes.SILENT)
+        os.kill(fakes.process_of(self.program), signal.SIGTERM)
+        self.assert_ended(session, "was ended by SIGTERM before it answered LINE")
+
+    def test_what_it_said_on_standard_error_is_told(self) -> None:
+        session = self.begun(fakes.complains(b"session: standard input: broken\n"))
+        self.assert_ended(
+            session, "has ended with status 1 before it answered LINE, saying: session: standard input: broken"
+        )
+
+    def test_of_much_on_standard_error_the_last_line_is_told(self) -> None:
+        session = self.begun(fakes.complains(b"a line\n" * 1000 + b"no memory\n \n", status=7))
+        self.assert_ended(session, "has ended with status 7 before it answered LINE, saying: no memory")
+
+    def test_bytes_on_standard_error_that_are_no_text_are_replaced(self) -> None:
+        session = self.begun(fakes.complains(b"\xff broken\n"))
+        self.assert_ended(session, "has ended with status 1 before it answered LINE, saying: \ufffd broken")
+
+    def test_the_text_is_one_line_whatever_is_on_standard_error(self) -> None:
+        session = self.begun(fakes.complains(b"10%\r20%\x0b30%\x1b[0m\n"))
+        with self.assertRaises(ProgramEnded) as raised:
+            session.terms()
+        self.assertTrue(str(raised.exception).isprintable(), str(raised.exception))
+
+    def test_a_program_that_ends_within_a_line(self) -> None:
+        session = self.session("hear()\nsay(b'(o')")
+        self.assert_ended(session, "has ended with status 0 before it answered LINE")
+
+    def test_a_program_that_ends_within_a_listing(self) -> None:
+        session = self.session(answers("(ok)", "(terms 3)\n(ccz 1 1 1)", then=""))
+        session.circuit(1)
+        reason = f"{self.program} has ended with status 0 before it answered (terms)"
+        self.assert_fails(ProgramEnded, reason, session.terms)
+        self.assert_fails(ProgramEnded, reason, session.terms)
+
+    def test_a_program_that_closes_its_output_and_goes_on(self) -> None:
+        session = self.session(fakes.CLOSES_ITS_OUTPUT)
+        session.circuit(1)
+        with mock.patch.object(program, "CLOSING_TIME", 0.05):
+            self.assert_ended(session, "has closed its output before it answered LINE")
+
+    def test_a_program_that_closes_its_input_and_goes_on(self) -> None:
+        session = self.session(fakes.CLOSES_ITS_INPUT)
+        session.circuit(1)
+        with mock.patch.object(program, "CLOSING_TIME", 0.05):
+            self.assert_ended(session, "takes no more lines before it answered LINE")
+
+    def test_the_reason_stays_when_the_session_is_closed(self) -> None:
+        session = self.begun(fakes.exits(3))
+        reason = f"{self.program} has ended with status 3 before it answered (terms)"
+        self.assert_fails(ProgramEnded, reason, session.terms)
+        session.close()
+        self.assert_fails(ProgramEnded, reason, session.terms)
+
+
+class LateTest(FakeCase):
+    """An answer is waited for, and is that of its line; with a time set, a line without an answer is the last one."""
+
+    def test_without_a_time_set_a_late_answer_is_waited_for(self) -> None:
+        session = self.session(fakes.answers_late(0.1, "(ok)"))
+        session.circuit(1)
+        self.assertEqual(heard(self.program), ["(circuit 1)"])
+
+    def test_late_answers_are_those_of_their_lines(self) -> None:
+        session = self.session(fakes.answers_late(0.03, "(ok)", "(no 9)", "(left 2)"))
+        session.circuit(1)
+        with self.assertRaises(Refused) as raised:
+            session.ccz(2, 1, 1)
+        self.assertEqual((raised.exception.number, raised.exception.line), (9, "(ccz 2 1 1)"))
+        self.assertEqual(session.amp("r", "0", "0", "0"), 2)
+
+    def test_an_answer_in_time_is_taken(self) -> None:
+        session = self.session(fakes.answers_late(0.01, "(ok)"), timeout=30)
+        session.circuit(1)
+        self.assertEqual(heard(self.program), ["(circuit 1)"])
+
+    def test_an_answer_that_is_late_is_taken_for_no_other_line(self) -> None:
+        session = self.session(fakes.answers_late(0.2, "(ok)", "(ok)"), timeout=0.1)
+        fakes.process_of(self.program)
+        late = f"{self.program} has not answered (circuit 1) in 0.1 seconds"
+        self.assert_fails(NoAnswer, late, lambda: session.circuit(1))
+        self.assertTrue(is_gone(self.program))
+        reason = "the program was ended, since it did not answer (circuit 1) in time"
+        self.assert_fails(ProgramEnded, reason, lambda: session.circuit(1))
+
+    def test_a_program_that_never_answers(self) -> None:
+        session = self.session(fakes.SILENT, timeout=0.05)
+        fakes.process_of(self.program)
+        late = f"{self.program} has not answered (circuit 1) in 0.05 seconds"
+        self.assert_fails(NoAnswer, late, lambda: session.circuit(1))
+        self.assertTrue(is_gone(self.program))
+
+    def test_pieces_of_a_line_do_not_give_it_more_time(self) -> None:
+        session = self.session(fakes.answers_in_pieces(0.04, *[b"("] * 50), timeout=0.1)
+        with self.assertRaises(NoAnswer):
+            session.circuit(1)
+        self.assertTrue(is_gone(self.program))
+
+
+class PiecesTest(FakeCase):
+    """An answer ends with its line feed, however it comes."""
+
+    def test_pieces_of_a_line_are_put_together(self) -> None:
+        session = self.session(fakes.answers_in_pieces(0.02, b"(", b"le", b"ft 1)", b"\n"))
+        self.assertEqual(session.amp("r", "", "", ""), 1)
+
+    def test_a_listing_that_comes_at_once_and_one_in_pieces_are_the_same(self) -> None:
+        listing = b"(terms 2)\n(ccz 1 1 1)\n(z (r 1))\n"
+        for pieces in [[listing], [listing[:12], listing[12:30], listing[30:]]]:
+            with self.subTest(pieces=len(pieces)):
+                session = self.session(f"hear()\nsay('(ok)')\n{fakes.answers_in_pieces(0.02, *pieces)}")
+                session.circuit(1)
+                self.assertEqual(session.terms(), [Ccz(1, 1, 1), Z(("r", 1))])
+
+    def test_no_line_is_sent_before_the_one_before_is_answered(self) -> None:
+        session = self.session(fakes.ANSWERS_ONE_LINE_AT_A_TIME)
+        for number in range(1, 301):
+            session.undo(number)
+        self.assertEqual(heard(self.program), [f"(undo {number})" for number in range(1, 301)])
+
+
+class NonsenseTest(FakeCase):
+    """What a line cannot be answered with is an error, and ends the program."""
+
+    def begun(self, *prepared: str) -> Session:
+        """A circuit with m = 1 is accepted; the prepared answers come next."""
+        session = self.session(answers("(ok)", *prepared))
+        session.circuit(1)
+        return session
+
+    def opened(self, *prepared: str) -> Session:
+        """A circuit with m = 2, and the sum for an amplitude open; the prepared answers come next."""
+        session = self.session(answers("(ok)", "(left 4)", *prepared))
+        session.circuit(2)
+        session.amp("r", "00", "00", "00")
+        return session
+
+    def assert_nonsense(self, ask: Callable[[], object], line: str, answer: str) -> None:
+        text = f"{self.program} answers {line} by {answer!r}, which is no answer to it"
+        self.assert_fails(UnexpectedAnswer, text, ask)
+        reason = f"the program was ended, since it answered {line} by {answer!r}"
+        self.assert_fails(ProgramEnded, reason, ask)
+        self.assertTrue(is_gone(self.program))
+
+    def test_ok_is_no_answer_to_amp(self) -> None:
+        session = self.begun("(ok)")
+        self.assert_nonsense(lambda: session.amp("r", "0", "0", "0"), "(amp r 0 0 0)", "(ok)")
+
+    def test_slices_are_no_answer_to_a_gate(self) -> None:
+        session = self.begun("(left 2)")
+        self.assert_nonsense(lambda: session.ccz(1, 1, 1), "(ccz 1 1 1)", "(left 2)")
+
+    def test_a_sum_has_as_many_slices_as_a_colour_has_strings(self) -> None:
+        session = self.session(answers("(ok)", "(left 3)"))
+        session.circuit(2)
+        self.assert_nonsense(lambda: session.part("g", "00", "00"), "(part g 00 00)", "(left 3)")
+
+    def test_a_step_leaves_as_many_slices_as_it_has_not_worked(self) -> None:
+        session = self.opened("(left 3)", "(left 2)")
+        self.assertEqual(session.step(1), 3)
+        self.assert_nonsense(lambda: session.step(2), "(step 2)", "(left 2)")
+
+    def test_a_total_does_not_come_while_slices_are_left(self) -> None:
+        session = self.opened("(amp 4 6)")
+        self.assert_nonsense(lambda: session.step(3), "(step 3)", "(amp 4 6)")
+
+    def test_no_slices_are_left_behind_the_last_step(self) -> None:
+        session = self.opened("(left 0)")
+        self.assert_nonsense(lambda: session.step(4), "(step 4)", "(left 0)")
+
+    def test_an_amplitude_has_three_times_m_as_its_exponent(self) -> None:
+        session = self.opened("(amp 4 5)")
+        self.assert_nonsense(lambda: session.step(4), "(step 4)", "(amp 4 5)")
+
+    def test_one_colour_read_has_twice_m_as_its_exponent(self) -> None:
+        session = self.begun("(left 2)", "(one 3 3)")
+        session.one("g", "0")
+        self.assert_nonsense(lambda: session.step(2), "(step 2)", "(one 3 3)")
+
+    def test_no_amplitude_is_above_1(self) -> None:
+        session = self.opened("(amp 65 6)")
+        self.assert_nonsense(lambda: session.step(4), "(step 4)", "(amp 65 6)")
+
+    def test_no_amplitude_is_below_minus_1(self) -> None:
+        session = self.opened("(amp -65 6)")
+        self.assert_nonsense(lambda: session.step(4), "(step 4)", "(amp -65 6)")
+
+    def test_an_amplitude_may_be_1_or_minus_1(self) -> None:
+        for number in [64, -64]:
+            with self.subTest(number=number):
+                total = self.opened(f"(amp {number} 6)").step(4)
+                self.assertEqual(total, program_total(number))
+
+    def test_no_readout_is_negative(self) -> None:
+        session = self.begun("(left 2)", "(part -1 3)")
+        session.part("g", "0", "0")
+        self.assert_nonsense(lambda: session.step(2), "(step 2)", "(part -1 3)")
+
+    def test_no_readout_is_above_1(self) -> None:
+        session = self.begun("(left 2)", "(one 5 2)")
+        session.one("g", "0")
+        self.assert_nonsense(lambda: session.step(2), "(step 2)", "(one 5 2)")
+
+    def test_a_readout_is_no_total_of_an_amplitude(self) -> None:
+        session = self.opened("(part 4 6)")
+        self.assert_nonsense(lambda: session.step(4), "(step 4)", "(part 4 6)")
+
+    def test_no_total_is_given_where_no_sum_is_open(self) -> None:
+        session = self.begun("(amp 6 3)")
+        self.assert_nonsense(lambda: session.step(2), "(step 2)", "(amp 6 3)")
+
+    def test_a_refusal_has_a_number_that_refusals_have(self) -> None:
+        for answer in ["(no 0)", "(no 15)", "(no 111)", "(no -4)", "(no)"]:
+            with self.subTest(answer=answer):
+                session = self.session(answers(answer))
+                self.assert_nonsense(lambda: session.circuit(1), "(circuit 1)", answer)
+
+    def test_the_refusal_that_only_callers_of_the_engine_meet_is_no_answer(self) -> None:
+        session = self.session(answers("(no 1)"))
+        self.assert_nonsense(lambda: session.circuit(1), "(circuit 1)", "(no 1)")
+
+    def test_a_listing_has_terms_alone(self) -> None:
+        for listed in ["", "(ok)", "(cnot r 1 1)", "(ccz 1 1)", "(ccz 1 1 1) ", "(z (k 1))", "(ccz 1 0 1)"]:
+            with self.subTest(listed=listed):
+                session = self.begun(f"(terms 2)\n(ccz 1 1 1)\n{listed}")
+                self.assert_nonsense(session.terms, "(terms)", listed)
+
+    def test_a_cz_of_a_listing_has_two_colours_in_order(self) -> None:
+        for listed in ["(cz (r 1) (r 1))", "(cz (b 1) (r 1))"]:
+            with self.subTest(listed=listed):
+                session = self.begun(f"(terms 1)\n{listed}")
+                self.assert_nonsense(session.terms, "(terms)", listed)
+
+    def test_a_listing_has_positions_of_the_circuit_alone(self) -> None:
+        for listed in ["(ccz 1 2 1)", "(cz (r 1) (g 2))", "(z (b 2))"]:
+            with self.subTest(listed=listed):
+                session = self.begun(f"(terms 1)\n{listed}")
+                self.assert_nonsense(session.terms, "(terms)", listed)
+
+    def test_a_listing_has_no_more_terms_than_there_are(self) -> None:
+        session = self.begun("(terms 8)")
+        self.assert_nonsense(session.terms, "(terms)", "(terms 8)")
+
+    def test_an_empty_line_is_no_answer(self) -> None:
+        session = self.session(answers(""))
+        self.assert_nonsense(lambda: session.circuit(1), "(circuit 1)", "")
+
+    def test_an_answer_is_spelled_exactly(self) -> None:
+        for answer in ["(ok", "ok", "(OK)", " (ok)", "(ok) ", "(ok)\r", "( ok)", "(ok)(ok)"]:
+            with self.subTest(answer=answer):
+                session = self.session(answers(answer))
+                self.assert_nonsense(lambda: session.circuit(1), "(circuit 1)", answer)
+
+    def test_a_number_has_no_zero_in_front_and_no_other_spelling(self) -> None:
+        for answer in ["(amp 04 6)", "(amp 4 06)", "(amp -0 6)", "(amp -04 6)", "(amp +4 6)", "(amp 4.0 6)", "(amp 6)"]:
+            with self.subTest(answer=answer):
+                session = self.opened(answer)
+                self.assert_nonsense(lambda: session.step(4), "(step 4)", answer)
+
+    def test_numbers_of_slices_terms_and_refusals_have_no_zero_in_front(self) -> None:
+        for answer, ask in [("(left 02)", "amp"), ("(terms 00)", "terms"), ("(no 04)", "terms")]:
+            with self.subTest(answer=answer):
+                session = self.begun(answer)
+                if ask == "amp":
+                    self.assert_nonsense(lambda: session.amp("r", "0", "0", "0"), "(amp r 0 0 0)", answer)
+                else:
+                    self.assert_nonsense(session.terms, "(terms)", answer)
+
+    def test_bytes_that_are_no_ascii_are_no_answer(self) -> None:
+        for data, shown in [(b"(ok)\xff", "(ok)\\xff"), ("(left ４)".encode(), "(left \\xef\\xbc\\x94)")]:
+            with self.subTest(data=data):
+                session = self.session(fakes.answers_bytes(data + b"\n"))
+                self.assert_nonsense(lambda: session.circuit(1), "(circuit 1)", shown)
+
+    def test_an_endless_line_is_not_waited_for(self) -> None:
+        session = self.session(fakes.ENDLESS)
+        self.assert_nonsense(lambda: session.circuit(1), "(circuit 1)", "a" * 64 + "..")
+
+    def test_a_line_of_more_than_64_bytes_is_no_answer(self) -> None:
+        session = self.session(answers("(terms 1)\n" + "a" * 65))
+        self.assert_nonsense(session.terms, "(terms)", "(terms 1)")
+        session = self.begun("(terms 1)\n" + "a" * 65)
+        self.assert_nonsense(session.terms, "(terms)", "a" * 64 + "..")
+
+
+def program_total(number: int) -> object:
+    raise NotImplementedError
+
+
+class UnaskedTest(FakeCase):
+    """What comes with nothing asked is noticed before the next line is sent."""
+
+    def assert_noticed(self, session: Session, came: str) -> None:
+        text = f"{self.program} says {came!r}, and nothing was asked"
+        self.assert_fails(UnexpectedAnswer, text, lambda: session.ccz(1, 1, 1))
+        self.assert_fails(ProgramEnded, f"the program was ended, since it said {came!r} unasked", session.terms)
+        self.assertTrue(is_gone(self.program))
+
+    def test_two_answers_to_one_line(self) -> None:
+        session = self.session(answers("(ok)\n(ok)"))
+        session.circuit(1)
+        self.assert_noticed(session, "(ok)\n")
+        self.assertEqual(heard(self.program), ["(circuit 1)"])
+
+    def test_a_second_answer_that_comes_later(self) -> None:
+        session = self.session(f"hear()\nsay('(ok)')\n{fakes.SPEAKS_FIRST}")
+        session.circuit(1)
+        fakes.awaited(Path(self.program + ".spoke"))
+        self.assert_noticed(session, "(ok)\n")
+        self.assertEqual(heard(self.program), ["(circuit 1)"])
+
+    def test_a_listing_with_more_terms_than_it_says(self) -> None:
+        session = self.session(answers("(ok)", "(terms 1)\n(z (r 1))\n(z (b 1))"))
+        session.circuit(1)
+        self.assertEqual(session.terms(), [Z(("r", 1))])
+        self.assert_noticed(session, "(z (b 1))\n")
+
+    def test_output_before_the_first_line(self) -> None:
+        session = self.session(fakes.SPEAKS_FIRST)
+        fakes.awaited(Path(self.program + ".spoke"))
+        self.assert_noticed(session, "(ok)\n")
+        self.assertEqual(heard(self.program), [])
+
+    def test_of_much_output_the_first_64_bytes_are_told(self) -> None:
+        session = self.session(answers("(ok)\n" + "a" * 100))
+        session.circuit(1)
+        self.assert_noticed(session, "a" * 64)
