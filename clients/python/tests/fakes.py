@@ -77,8 +77,10 @@ CLOSES_ITS_OUTPUT = "hear()\nsay('(ok)')\nhear()\nos.close(1)\nwhile True: hear(
 CLOSES_ITS_INPUT = "hear()\nos.close(0)\nsay('(ok)')\ntime.sleep(60)"
 SPEAKS_FIRST = f"say('(ok)')\nnote('.spoke', b'yes')\n{SILENT}"
 
-# Whoever runs this fake is interrupted, as from the keyboard, while it waits for the answer.
-INTERRUPTS = f"hear()\nos.kill(os.getppid(), signal.SIGINT)\n{SILENT}"
+# Whoever runs such a fake is interrupted, as from the keyboard: while it waits for the answer, or while it sends a line
+# of more bytes than a pipe holds.
+INTERRUPTS = f"hear()\ntime.sleep(0.05)\nos.kill(os.getppid(), signal.SIGINT)\n{SILENT}"
+INTERRUPTS_A_LONG_LINE = "os.read(0, 1)\ntime.sleep(0.05)\nos.kill(os.getppid(), signal.SIGINT)\ntime.sleep(60)"
 
 # Ends where more than one line has come, or comes before the answer is given.
 ANSWERS_ONE_LINE_AT_A_TIME = r"""

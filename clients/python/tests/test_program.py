@@ -10,10 +10,22 @@ import subprocess
 import sys
 import unittest
 from pathlib import Path
-from typing import Callable, Iterator
+from typing import Callable, Optional
 from unittest import mock
 
-from waitfield import Ccz, NoAnswer, ProgramEnded, Refused, Session, SessionError, UnexpectedAnswer, Z, program
+from waitfield import (
+    Amplitude,
+    Ccz,
+    NoAnswer,
+    ProgramEnded,
+    Refused,
+    Session,
+    SessionError,
+    Spot,
+    UnexpectedAnswer,
+    Z,
+    program,
+)
 from waitfield.program import Program, find_program
 
 from . import fakes
@@ -26,87 +38,81 @@ CLIENT = Path(__file__).resolve().parent.parent
 class EndingTest(FakeCase):
     """Whichever way the program ends, the error says how, and which line it left without an answer."""
 
-    def assert_ended(self, session: Session, how: str, line: str = "(ccz 1 1 1)") -> None:
-        """A line is left without an answer, and every later line is told the same reason. The process is gone."""
-        reason = f"{self.program} {how}"
-        self.assert_fails(ProgramEnded, reason.replace("LINE", line), lambda: session.ccz(1, 1, 1))
-        self.assert_fails(ProgramEnded, reason.replace("LINE", line), session.terms)
-        self.assertTrue(is_gone(self.program))
-
     def begun(self, then: str) -> Session:
+        """A circuit is accepted; then the fake does something else than answer."""
         session = self.session(answers("(ok)", then=then))
         session.circuit(1)
         return session
 
-    def test_a_program_that_ends_before_the_first_line(self) -> None:
-        session = self.session("")
-        self.assert_ended(session, "has ended with status 0 before it answered LINE")
+    def assert_ended(self, session: Session, how: str, said: str = "") -> None:
+        """A gate is left without an answer, and every later line is told the same reason. The process is gone."""
+        reason = f"{self.program} {how} before it answered (ccz 1 1 1){said}"
+        self.assert_fails(ProgramEnded, reason, lambda: session.ccz(1, 1, 1))
+        self.assert_fails(ProgramEnded, reason, session.terms)
+        self.assertTrue(is_gone(self.program))
 
-    def test_a_program_that_ends_in_place_of_an_answer(self) -> None:
-        self.assert_ended(self.begun(fakes.ENDS), "has ended with status 0 before it answered LINE")
+    def test_before_the_first_line(self) -> None:
+        self.assert_ended(self.session(""), "has ended with status 0")
 
-    def test_a_program_that_ends_between_two_lines(self) -> None:
-        session = self.begun("")
-        os.waitid(os.P_PID, fakes.process_of(self.program), os.WEXITED | os.WNOWAIT)
-        self.assert_ended(session, "has ended with status 0 before it answered LINE")
-        self.assertEqual(heard(self.program), ["(circuit 1)"])
+    def test_in_place_of_an_answer(self) -> None:
+        self.assert_ended(self.begun(fakes.ENDS), "has ended with status 0")
 
-    def test_a_program_that_ends_with_a_status(self) -> None:
-        self.assert_ended(self.begun(fakes.exits(3)), "has ended with status 3 before it answered LINE")
+    def test_between_two_lines(self) -> None:
+        self.assert_ended(self.begun(""), "has ended with status 0")
 
-    def test_a_program_that_is_killed(self) -> None:
-        self.assert_ended(self.begun(fakes.killed(signal.SIGKILL)), "was ended by SIGKILL before it answered LINE")
+    def test_within_a_line(self) -> None:
+        self.assert_ended(self.session("hear()\nsay(b'(o')"), "has ended with status 0")
 
-    def test_a_signal_without_a_name_is_told_by_its_number(self) -> None:
-        self.assert_ended(self.begun(fakes.killed(35)), "was ended by signal 35 before it answered LINE")
-
-    def test_a_program_that_is_ended_by_somebody_else(self) -> None:
-        session = self.begun(fakes.SILENT)
-        os.kill(fakes.process_of(self.program), signal.SIGTERM)
-        self.assert_ended(session, "was ended by SIGTERM before it answered LINE")
-
-    def test_what_it_said_on_standard_error_is_told(self) -> None:
-        session = self.begun(fakes.complains(b"session: standard input: broken\n"))
-        self.assert_ended(
-            session, "has ended with status 1 before it answered LINE, saying: session: standard input: broken"
-        )
-
-    def test_of_much_on_standard_error_the_last_line_is_told(self) -> None:
-        session = self.begun(fakes.complains(b"a line\n" * 1000 + b"no memory\n \n", status=7))
-        self.assert_ended(session, "has ended with status 7 before it answered LINE, saying: no memory")
-
-    def test_bytes_on_standard_error_that_are_no_text_are_replaced(self) -> None:
-        session = self.begun(fakes.complains(b"\xff broken\n"))
-        self.assert_ended(session, "has ended with status 1 before it answered LINE, saying: \ufffd broken")
-
-    def test_the_text_is_one_line_whatever_is_on_standard_error(self) -> None:
-        session = self.begun(fakes.complains(b"10%\r20%\x0b30%\x1b[0m\n"))
-        with self.assertRaises(ProgramEnded) as raised:
-            session.terms()
-        self.assertTrue(str(raised.exception).isprintable(), str(raised.exception))
-
-    def test_a_program_that_ends_within_a_line(self) -> None:
-        session = self.session("hear()\nsay(b'(o')")
-        self.assert_ended(session, "has ended with status 0 before it answered LINE")
-
-    def test_a_program_that_ends_within_a_listing(self) -> None:
+    def test_within_a_listing(self) -> None:
         session = self.session(answers("(ok)", "(terms 3)\n(ccz 1 1 1)", then=""))
         session.circuit(1)
         reason = f"{self.program} has ended with status 0 before it answered (terms)"
         self.assert_fails(ProgramEnded, reason, session.terms)
         self.assert_fails(ProgramEnded, reason, session.terms)
 
-    def test_a_program_that_closes_its_output_and_goes_on(self) -> None:
+    def test_with_a_status(self) -> None:
+        self.assert_ended(self.begun(fakes.exits(3)), "has ended with status 3")
+
+    def test_by_a_signal(self) -> None:
+        self.assert_ended(self.begun(fakes.killed(signal.SIGKILL)), "was ended by SIGKILL")
+
+    def test_by_a_signal_that_has_no_name(self) -> None:
+        self.assert_ended(self.begun(fakes.killed(35)), "was ended by signal 35")
+
+    def test_by_somebody_else(self) -> None:
+        session = self.begun(fakes.SILENT)
+        os.kill(fakes.process_of(self.program), signal.SIGTERM)
+        self.assert_ended(session, "was ended by SIGTERM")
+
+    def test_what_it_said_on_standard_error_is_told(self) -> None:
+        session = self.begun(fakes.complains(b"session: standard input: broken\n"))
+        self.assert_ended(session, "has ended with status 1", ", saying: session: standard input: broken")
+
+    def test_of_much_on_standard_error_the_last_line_is_told(self) -> None:
+        session = self.begun(fakes.complains(b"a line\n" * 1000 + b"no memory\n \n", status=7))
+        self.assert_ended(session, "has ended with status 7", ", saying: no memory")
+
+    def test_bytes_on_standard_error_that_are_no_text_are_replaced(self) -> None:
+        session = self.begun(fakes.complains(b"\xff broken\n"))
+        self.assert_ended(session, "has ended with status 1", ", saying: \ufffd broken")
+
+    def test_the_text_is_one_line_whatever_is_on_standard_error(self) -> None:
+        session = self.begun(fakes.complains(b"10%\r20%\x0b30%\n"))
+        with self.assertRaises(ProgramEnded) as raised:
+            session.terms()
+        self.assertEqual(len(str(raised.exception).splitlines()), 1, str(raised.exception))
+
+    def test_its_output_closed_while_it_goes_on(self) -> None:
         session = self.session(fakes.CLOSES_ITS_OUTPUT)
         session.circuit(1)
         with mock.patch.object(program, "CLOSING_TIME", 0.05):
-            self.assert_ended(session, "has closed its output before it answered LINE")
+            self.assert_ended(session, "has closed its output")
 
-    def test_a_program_that_closes_its_input_and_goes_on(self) -> None:
+    def test_its_input_closed_while_it_goes_on(self) -> None:
         session = self.session(fakes.CLOSES_ITS_INPUT)
         session.circuit(1)
         with mock.patch.object(program, "CLOSING_TIME", 0.05):
-            self.assert_ended(session, "takes no more lines before it answered LINE")
+            self.assert_ended(session, "takes no more lines")
 
     def test_the_reason_stays_when_the_session_is_closed(self) -> None:
         session = self.begun(fakes.exits(3))
@@ -155,6 +161,7 @@ class LateTest(FakeCase):
 
     def test_pieces_of_a_line_do_not_give_it_more_time(self) -> None:
         session = self.session(fakes.answers_in_pieces(0.04, *[b"("] * 50), timeout=0.1)
+        fakes.process_of(self.program)
         with self.assertRaises(NoAnswer):
             session.circuit(1)
         self.assertTrue(is_gone(self.program))
@@ -173,7 +180,7 @@ class PiecesTest(FakeCase):
             with self.subTest(pieces=len(pieces)):
                 session = self.session(f"hear()\nsay('(ok)')\n{fakes.answers_in_pieces(0.02, *pieces)}")
                 session.circuit(1)
-                self.assertEqual(session.terms(), [Ccz(1, 1, 1), Z(("r", 1))])
+                self.assertEqual(session.terms(), [Ccz(1, 1, 1), Z(Spot("r", 1))])
 
     def test_no_line_is_sent_before_the_one_before_is_answered(self) -> None:
         session = self.session(fakes.ANSWERS_ONE_LINE_AT_A_TIME)
@@ -251,8 +258,7 @@ class NonsenseTest(FakeCase):
     def test_an_amplitude_may_be_1_or_minus_1(self) -> None:
         for number in [64, -64]:
             with self.subTest(number=number):
-                total = self.opened(f"(amp {number} 6)").step(4)
-                self.assertEqual(total, program_total(number))
+                self.assertEqual(self.opened(f"(amp {number} 6)").step(4), Amplitude(number, 6))
 
     def test_no_readout_is_negative(self) -> None:
         session = self.begun("(left 2)", "(part -1 3)")
@@ -293,6 +299,18 @@ class NonsenseTest(FakeCase):
             with self.subTest(listed=listed):
                 session = self.begun(f"(terms 1)\n{listed}")
                 self.assert_nonsense(session.terms, "(terms)", listed)
+
+    def test_a_listing_has_each_term_once_and_in_order(self) -> None:
+        for first, second in [
+            ("(ccz 1 1 1)", "(ccz 1 1 1)"),
+            ("(cz (r 1) (b 1))", "(ccz 1 1 1)"),
+            ("(cz (r 1) (g 1))", "(cz (r 1) (b 1))"),
+            ("(z (r 1))", "(cz (b 1) (g 1))"),
+            ("(z (g 1))", "(z (b 1))"),
+        ]:
+            with self.subTest(first=first, second=second):
+                session = self.begun(f"(terms 2)\n{first}\n{second}")
+                self.assert_nonsense(session.terms, "(terms)", second)
 
     def test_a_listing_has_positions_of_the_circuit_alone(self) -> None:
         for listed in ["(ccz 1 2 1)", "(cz (r 1) (g 2))", "(z (b 2))"]:
@@ -346,10 +364,6 @@ class NonsenseTest(FakeCase):
         self.assert_nonsense(session.terms, "(terms)", "a" * 64 + "..")
 
 
-def program_total(number: int) -> object:
-    raise NotImplementedError
-
-
 class UnaskedTest(FakeCase):
     """What comes with nothing asked is noticed before the next line is sent."""
 
@@ -375,7 +389,7 @@ class UnaskedTest(FakeCase):
     def test_a_listing_with_more_terms_than_it_says(self) -> None:
         session = self.session(answers("(ok)", "(terms 1)\n(z (r 1))\n(z (b 1))"))
         session.circuit(1)
-        self.assertEqual(session.terms(), [Z(("r", 1))])
+        self.assertEqual(session.terms(), [Z(Spot("r", 1))])
         self.assert_noticed(session, "(z (b 1))\n")
 
     def test_output_before_the_first_line(self) -> None:
@@ -388,3 +402,228 @@ class UnaskedTest(FakeCase):
         session = self.session(answers("(ok)\n" + "a" * 100))
         session.circuit(1)
         self.assert_noticed(session, "a" * 64)
+
+
+class SayingTest(FakeCase):
+    """What is no line is not sent, and the session goes on."""
+
+    def test_what_is_no_line_is_not_sent(self) -> None:
+        session = self.session(answers("(ok)"))
+        for string in ["0\n(drop)", "\n", "\ud800"]:
+            with self.subTest(string=string), self.assertRaises(ValueError):
+                session.start(string, "0", "0")
+        session.circuit(1)
+        self.assertEqual(heard(self.program), ["(circuit 1)"])
+
+    def test_an_empty_line_is_not_sent_since_it_has_no_answer(self) -> None:
+        running = Program(fake(self.folder, answers("(ok)")))
+        self.addCleanup(running.close)
+        with self.assertRaises(ValueError):
+            running.ask("")
+        self.assertEqual(running.ask("(circuit 1)"), ["(ok)"])
+
+
+class ClosingTest(FakeCase):
+    """The program is gone when the session is left, whichever way it is left."""
+
+    def begun(self, body: str = answers("(ok)")) -> Session:
+        session = self.session(body)
+        session.circuit(1)
+        return session
+
+    def test_a_closed_session_has_ended_its_program(self) -> None:
+        session = self.begun()
+        self.assertFalse(is_gone(self.program))
+        session.close()
+        self.assertTrue(is_gone(self.program))
+        self.assert_fails(ProgramEnded, "the session is closed", session.terms)
+
+    def test_a_session_may_be_closed_twice(self) -> None:
+        session = self.begun()
+        session.close()
+        session.close()
+        self.assert_fails(ProgramEnded, "the session is closed", session.terms)
+
+    def test_a_program_that_never_ends_is_killed(self) -> None:
+        session = self.begun(fakes.NEVER_ENDS)
+        with mock.patch.object(program, "CLOSING_TIME", 0.05):
+            session.close()
+        self.assertTrue(is_gone(self.program))
+
+    def test_a_program_that_still_writes_is_killed(self) -> None:
+        session = self.session(fakes.ENDLESS)
+        fakes.process_of(self.program)
+        with self.assertRaises(UnexpectedAnswer):
+            session.circuit(1)
+        session.close()
+        self.assertTrue(is_gone(self.program))
+
+    def test_the_end_of_a_with_statement_closes_it(self) -> None:
+        with self.begun() as session:
+            self.assertFalse(is_gone(self.program))
+        self.assertTrue(is_gone(self.program))
+        self.assert_fails(ProgramEnded, "the session is closed", session.terms)
+
+    def test_an_exception_out_of_a_with_statement_closes_it_and_passes(self) -> None:
+        with self.assertRaisesRegex(LookupError, "^mine$"), self.begun():
+            raise LookupError("mine")
+        self.assertTrue(is_gone(self.program))
+
+    def test_an_object_that_is_dropped_ends_its_program(self) -> None:
+        program_path = fake(self.folder, answers("(ok)"))
+        session = Session(program_path)
+        session.circuit(1)
+        del session
+        gc.collect()
+        self.assertTrue(is_gone(program_path))
+
+    def test_the_end_of_the_interpreter_ends_it(self) -> None:
+        for end in ["", "raise SystemExit(0)"]:
+            with self.subTest(end=end):
+                path = fake(self.folder, answers("(ok)"))
+                script = f"from waitfield import Session\nopen_one = Session({path!r})\nopen_one.circuit(1)\n{end}"
+                run = subprocess.run([sys.executable, "-c", script], cwd=CLIENT, stderr=subprocess.PIPE, check=True)
+                self.assertEqual(run.stderr, b"")
+                self.assertTrue(is_gone(path))
+
+
+class InterruptTest(FakeCase):
+    """An interrupt from the keyboard passes, and leaves no answer behind that could be taken for another line's."""
+
+    def setUp(self) -> None:
+        super().setUp()
+        before = signal.signal(signal.SIGINT, signal.default_int_handler)
+        self.addCleanup(signal.signal, signal.SIGINT, before)
+
+    def test_while_an_answer_is_awaited(self) -> None:
+        session = self.session(fakes.INTERRUPTS)
+        with self.assertRaises(KeyboardInterrupt):
+            session.circuit(1)
+        self.assertTrue(is_gone(self.program))
+        reason = "the program was ended, since the answer to (circuit 1) was not waited for"
+        self.assert_fails(ProgramEnded, reason, session.terms)
+
+    def test_between_a_line_and_its_answer(self) -> None:
+        session = self.session(fakes.answers_late(0.1, "(ok)", "(ok)"))
+        with mock.patch.object(Program, "_next_line", side_effect=KeyboardInterrupt):
+            with self.assertRaises(KeyboardInterrupt):
+                session.circuit(1)
+        reason = "the program was ended, since the answer to (circuit 1) was not waited for"
+        self.assert_fails(ProgramEnded, reason, lambda: session.ccz(1, 1, 1))
+
+    def test_while_a_line_is_sent(self) -> None:
+        session = self.session(fakes.INTERRUPTS_A_LONG_LINE)
+        with self.assertRaises(KeyboardInterrupt):
+            session.one("r", "0" * 1_000_000)
+        self.assertTrue(is_gone(self.program))
+        shown = "(one r " + "0" * 113 + ".."
+        reason = f"the program was ended, since the answer to {shown} was not waited for"
+        self.assert_fails(ProgramEnded, reason, session.terms)
+
+    def test_it_does_not_reach_the_program(self) -> None:
+        session = self.session(answers("(ok)"))
+        session.circuit(1)
+        self.assertEqual(os.getpgid(fakes.process_of(self.program)), fakes.process_of(self.program))
+        self.assertNotEqual(os.getpgid(fakes.process_of(self.program)), os.getpgid(0))
+
+
+class RunningTest(FakeCase):
+    """What cannot be run is an error of one line."""
+
+    def assert_cannot_be_run(self, path: Path, number: int) -> None:
+        text = f"{path} cannot be run: {os.strerror(number)}"
+        self.assert_fails(SessionError, text, lambda: Session(path))
+
+    def test_a_path_that_does_not_exist(self) -> None:
+        self.assert_cannot_be_run(self.folder / "none", errno.ENOENT)
+
+    def test_a_folder(self) -> None:
+        self.assert_cannot_be_run(self.folder, errno.EACCES)
+
+    def test_a_file_that_is_not_executable(self) -> None:
+        file = self.folder / "text"
+        file.write_text("(ok)")
+        self.assert_cannot_be_run(file, errno.EACCES)
+
+    def test_a_file_that_is_no_program(self) -> None:
+        file = self.folder / "text"
+        file.write_text("(ok)")
+        file.chmod(0o700)
+        self.assert_cannot_be_run(file, errno.ENOEXEC)
+
+    def test_a_path_may_be_a_path_object(self) -> None:
+        with Session(Path(fake(self.folder, answers("(ok)")))) as session:
+            session.circuit(1)
+
+
+class FindingTest(FakeCase):
+    """The program is the one that is named, else the one of the variable, else the one of the repository."""
+
+    def setUp(self) -> None:
+        super().setUp()
+        self.set_variable(None)
+
+    def set_variable(self, value: Optional[str]) -> None:
+        """Sets the variable, or takes it away, until the end of the test."""
+        patched = mock.patch.dict(os.environ)
+        patched.start()
+        self.addCleanup(patched.stop)
+        os.environ.pop("WAITFIELD_SESSION", None)
+        if value is not None:
+            os.environ["WAITFIELD_SESSION"] = value
+
+    def repository(self, name: str, built: bool = True) -> Path:
+        """A folder that looks like a repository."""
+        folder = self.folder.resolve() / name
+        (folder / "crates" / "session").mkdir(parents=True)
+        if built:
+            (folder / "target" / "bin").mkdir(parents=True)
+            (folder / "target" / "bin" / "session").touch()
+        return folder
+
+    def test_an_argument_comes_before_the_variable(self) -> None:
+        self.set_variable("by variable")
+        self.assertEqual(find_program("by argument"), "by argument")
+
+    def test_the_variable_comes_before_the_repository(self) -> None:
+        self.set_variable("by variable")
+        with mock.patch.object(program, "_repositories", lambda: iter([self.repository("one")])):
+            self.assertEqual(find_program(), "by variable")
+
+    def test_an_empty_variable_is_as_none(self) -> None:
+        self.set_variable("")
+        one = self.repository("one")
+        with mock.patch.object(program, "_repositories", lambda: iter([one])):
+            self.assertEqual(find_program(), str(one / "target" / "bin" / "session"))
+
+    def test_a_repository_without_the_program_is_passed_over(self) -> None:
+        found = [self.repository("one", built=False), self.repository("two")]
+        with mock.patch.object(program, "_repositories", lambda: iter(found)):
+            self.assertEqual(find_program(), str(found[1] / "target" / "bin" / "session"))
+
+    def test_the_repository_that_the_package_stands_in_comes_first(self) -> None:
+        package, current = self.repository("package"), self.repository("current")
+        self.enter(current)
+        with mock.patch.object(program, "__file__", str(package / "clients" / "waitfield" / "program.py")):
+            self.assertEqual(find_program(), str(package / "target" / "bin" / "session"))
+
+    def test_an_installed_package_finds_the_repository_of_the_current_folder(self) -> None:
+        current = self.repository("current")
+        self.enter(current / "crates")
+        with mock.patch.object(program, "__file__", str(self.folder / "lib" / "waitfield" / "program.py")):
+            self.assertEqual(find_program(), str(current / "target" / "bin" / "session"))
+
+    def test_where_nothing_is_found_the_error_says_what_to_do(self) -> None:
+        text = (
+            "the program session is not found: give its path, set WAITFIELD_SESSION, or build it by 'rt check'"
+        )
+        with mock.patch.object(program, "_repositories", lambda: iter([])):
+            self.assert_fails(SessionError, text, Session)
+
+    def enter(self, folder: Path) -> None:
+        self.addCleanup(os.chdir, os.getcwd())
+        os.chdir(folder)
+
+
+if __name__ == "__main__":
+    unittest.main()

@@ -21,6 +21,15 @@ MEANINGS = {
 }
 
 
+# Characters of a line that an error shows.
+LONGEST_SHOWN = 120
+
+
+def shown(line: str) -> str:
+    """A line as errors show it."""
+    return line if len(line) <= LONGEST_SHOWN else f"{line[:LONGEST_SHOWN]}.."
+
+
 class WaitfieldError(Exception):
     """Any error of this package."""
 
@@ -35,7 +44,7 @@ class Refused(WaitfieldError):
         super().__init__(number, line)
 
     def __str__(self) -> str:
-        return f"{self.line} is refused by {self.number}: {self.meaning}"
+        return f"{shown(self.line)} is refused by {self.number}: {self.meaning}"
 
 
 class SessionError(WaitfieldError):

@@ -102,8 +102,18 @@ def listed_term(line: str) -> Optional[Term]:
     for pattern, term in _TERMS:
         found = pattern.fullmatch(line)
         if found:
-            return term(*found.groups())
+            listed = term(*found.groups())
+            return listed if _colours(listed) == sorted(set(_colours(listed))) else None
     return None
+
+
+def listing_place(term: Term) -> list[int]:
+    """What a listing is in order by: the kind of term, its colours, its positions."""
+    return [-len(term.touches), *_colours(term), *(spot.position for spot in term.touches)]
+
+
+def _colours(term: Term) -> list[int]:
+    return [COLOURS.index(spot.colour) for spot in term.touches]
 
 
 def read_colours(unread: str) -> str:

@@ -2,6 +2,7 @@
 
 from __future__ import annotations
 
+import math
 import os
 import select
 import signal
@@ -10,9 +11,9 @@ import tempfile
 import time
 import weakref
 from pathlib import Path
-from typing import IO, Iterator, NoReturn, Optional, Union
+from typing import IO, Callable, Iterator, NoReturn, Optional, Union
 
-from .errors import NoAnswer, ProgramEnded, SessionError, UnexpectedAnswer
+from .errors import NoAnswer, ProgramEnded, SessionError, UnexpectedAnswer, shown
 
 VARIABLE = "WAITFIELD_SESSION"
 
@@ -63,8 +64,7 @@ def _told(errors: IO[bytes]) -> str:
     """The last line on the program's standard error, as the end of a sentence."""
     errors.seek(0, os.SEEK_END)
     errors.seek(max(0, errors.tell() - 1000))
-    lines = errors.read().decode("utf-8", "replace").split("\n")
-    said = [line.strip() for line in lines if line.strip()]
+    said = [line.strip() for line in errors.read().decode("utf-8", "replace").splitlines() if line.strip()]
     return f", saying: {said[-1]}" if said else ""
 
 
@@ -101,6 +101,9 @@ class Program:
         except OSError as error:
             self._errors.close()
             raise SessionError(f"{path} cannot be run: {error.strerror}") from error
+        assert self._process.stdout is not None
+        self._output = select.poll()
+        self._output.register(self._process.stdout, select.POLLIN)
         self._close = weakref.finalize(self, _finish, self._process, self._errors)
 
     def close(self) -> None:
@@ -112,35 +115,25 @@ class Program:
     def runs(self) -> bool:
         return self._over is None
 
-    def say(self, line: str) -> None:
-        """Gives the program one line."""
+    def ask(self, line: str, later_lines: Callable[[str], int] = lambda first: 0) -> list[str]:
+        """Gives the program one line and waits for its answer. `later_lines` tells how many lines follow the first."""
         if self._over:
             raise ProgramEnded(self._over)
         if not line or "\n" in line:
             raise ValueError("one line that is not empty can be given, and its answer awaited")
-        if self._unread or self._speaks(0):
-            self._more_than_asked(line)
-        assert self._process.stdin is not None
-        rest = memoryview(line.encode() + b"\n")
+        sent = line.encode() + b"\n"
         try:
-            while rest:
-                rest = rest[self._process.stdin.write(rest) or 0 :]
-        except BrokenPipeError:
-            self._ended(line, "takes no more lines")
-        except BaseException:
-            self.abandon(f"the program was ended, since {line} was interrupted")
-            raise
-
-    def answer_line(self, line: str) -> str:
-        """The next line of the answer to `line`, waited for."""
-        if self._over:
-            raise ProgramEnded(self._over)
-        try:
-            return self._next_line(line)
+            if self._unread or self._speaks(0):
+                self._more_than_asked(line)
+            self._send(sent, line)
+            answer = [self._next_line(line)]
+            for _ in range(later_lines(answer[0])):
+                answer.append(self._next_line(line))
+            return answer
         except SessionError:
             raise
         except BaseException:
-            self.abandon(f"the program was ended, since the answer to {line} was not waited for")
+            self.abandon(f"the program was ended, since the answer to {shown(line)} was not waited for")
             raise
 
     def abandon(self, reason: str) -> None:
@@ -151,8 +144,17 @@ class Program:
 
     def unexpected(self, line: str, answer: str) -> NoReturn:
         """For an answer that the line cannot have."""
-        self.abandon(f"the program was ended, since it answered {line} by {answer!r}")
-        raise UnexpectedAnswer(f"{self.path} answers {line} by {answer!r}, which is no answer to it")
+        self.abandon(f"the program was ended, since it answered {shown(line)} by {answer!r}")
+        raise UnexpectedAnswer(f"{self.path} answers {shown(line)} by {answer!r}, which is no answer to it")
+
+    def _send(self, sent: bytes, line: str) -> None:
+        assert self._process.stdin is not None
+        rest = memoryview(sent)
+        try:
+            while rest:
+                rest = rest[self._process.stdin.write(rest) or 0 :]
+        except BrokenPipeError:
+            self._ended(line, "takes no more lines")
 
     def _next_line(self, line: str) -> str:
         until = None if self._timeout is None else time.monotonic() + self._timeout
@@ -173,7 +175,7 @@ class Program:
 
     def _speaks(self, seconds: Optional[float]) -> bool:
         """Whether the program writes, or ends its output, within that time."""
-        return bool(select.select([self._process.stdout], [], [], seconds)[0])
+        return bool(self._output.poll(None if seconds is None else math.ceil(1000 * seconds)))
 
     def _receive(self) -> bytes:
         assert self._process.stdout is not None
@@ -189,8 +191,8 @@ class Program:
         raise UnexpectedAnswer(f"{self.path} says {text!r}, and nothing was asked")
 
     def _late(self, line: str) -> NoReturn:
-        self.abandon(f"the program was ended, since it did not answer {line} in time")
-        raise NoAnswer(f"{self.path} has not answered {line} in {self._timeout:g} seconds")
+        self.abandon(f"the program was ended, since it did not answer {shown(line)} in time")
+        raise NoAnswer(f"{self.path} has not answered {shown(line)} in {self._timeout:g} seconds")
 
     def _ended(self, line: str, how: str = "has closed its output") -> NoReturn:
         """For a program that closed a pipe, most often by ending."""
@@ -198,6 +200,6 @@ class Program:
             how = _how_ended(self._process.wait(CLOSING_TIME))
         except subprocess.TimeoutExpired:
             pass
-        reason = f"{self.path} {how} before it answered {line}{_told(self._errors)}"
+        reason = f"{self.path} {how} before it answered {shown(line)}{_told(self._errors)}"
         self.abandon(reason)
         raise ProgramEnded(reason)

@@ -11,14 +11,14 @@ from typing import Callable, Iterable, Optional, Sequence, Type, Union
 from .answers import Amplitude, Readout
 from .circuit import Circuit
 from .errors import MEANINGS, Refused
-from .gates import Ccz, Cnot, Cz, Gate, Spot, Term, Z, listed_term, read_colours
+from .gates import Ccz, Cnot, Cz, Gate, Spot, Term, Z, listed_term, listing_place, read_colours
 from .program import Program, find_program
 
 # Told after each step of a sum: the slices worked, and all that there are.
 Progress = Callable[[int, int], object]
 
 # Into how many steps a sum is cut where somebody is told of its progress.
-STEPS_TOLD = 16
+STEPS_TOLD = 8
 
 _REFUSAL = re.compile(r"\(no ([1-9][0-9]*)\)")
 _TOTAL = re.compile(r"\((amp|part|one) (0|-?[1-9][0-9]*) ([1-9][0-9]*)\)")
@@ -107,10 +107,11 @@ class Session:
     def step(self, k: int) -> Union[int, Amplitude, Readout]:
         """Works k more slices of the open sum, or all that are left. Gives how many are left, or else the total."""
         line = f"(step {index(k)})"
-        answer = self._ask(line)
+        (answer,) = self._ask(line)
         left = self._left - index(k)
         if left > 0:
-            self._expect(line, answer, f"(left {left})")
+            if answer != f"(left {left})":
+                self._program.unexpected(line, answer)
             self._left = left
             return left
         found = _TOTAL.fullmatch(answer)
@@ -131,11 +132,18 @@ class Session:
     def terms(self) -> list[Term]:
         """The terms of the phase polynomial, in the order of the manual, section 6.2."""
         line = "(terms)"
-        answer = self._ask(line)
-        found = _LISTING.fullmatch(answer)
-        if not found or int(found[1]) > self._m**3 + 3 * self._m**2 + 3 * self._m:
-            self._program.unexpected(line, answer)
-        return [self._term(line) for _ in range(int(found[1]))]
+        first, *listed = self._ask(line, self._lines_listed)
+        if not listed and first != "(terms 0)":
+            self._program.unexpected(line, first)
+        terms: list[Term] = []
+        for spelled in listed:
+            term = listed_term(spelled)
+            if term is None or any(spot.position > self._m for spot in term.touches):
+                self._program.unexpected(line, spelled)
+            if terms and listing_place(terms[-1]) >= listing_place(term):
+                self._program.unexpected(line, spelled)
+            terms.append(term)
+        return terms
 
     # What most users want of them.
 
@@ -226,35 +234,35 @@ class Session:
             raise
 
     def _open(self, kind: str, line: str) -> int:
-        self._expect(line, self._ask(line), f"(left {2**self._m})")
+        self._expect(line, f"(left {2**self._m})")
         self._sum, self._left = kind, 2**self._m
         return self._left
 
     def _ok(self, line: str) -> None:
-        self._expect(line, self._ask(line), "(ok)")
+        self._expect(line, "(ok)")
 
-    def _expect(self, line: str, answer: str, expected: str) -> None:
+    def _expect(self, line: str, expected: str) -> None:
+        (answer,) = self._ask(line)
         if answer != expected:
             self._program.unexpected(line, answer)
 
-    def _ask(self, line: str) -> str:
-        """The first line of the answer. A refusal is raised."""
-        self._program.say(line)
-        answer = self._program.answer_line(line)
-        refusal = _REFUSAL.fullmatch(answer)
+    def _ask(self, line: str, later_lines: Callable[[str], int] = lambda first: 0) -> list[str]:
+        """The lines of the answer. A refusal is raised."""
+        answer = self._program.ask(line, later_lines)
+        refusal = _REFUSAL.fullmatch(answer[0])
         if not refusal:
             return answer
         number = int(refusal[1])
-        if number not in MEANINGS:
-            self._program.unexpected(line, answer)
+        # Refusal 1 has no answer line.
+        if number not in MEANINGS or number == 1:
+            self._program.unexpected(line, answer[0])
         raise Refused(number, line)
 
-    def _term(self, line: str) -> Term:
-        listed = self._program.answer_line(line)
-        term = listed_term(listed)
-        if term is None or any(spot.position > self._m for spot in term.touches):
-            self._program.unexpected(line, listed)
-        return term
+    def _lines_listed(self, first: str) -> int:
+        """How many lines follow the first of a listing; none if it cannot be one."""
+        found = _LISTING.fullmatch(first)
+        most = self._m**3 + 3 * self._m**2 + 3 * self._m
+        return int(found[1]) if found and int(found[1]) <= most else 0
 
 
 def _spot(spot: tuple[str, int]) -> Spot:
