@@ -2,29 +2,25 @@
 
 from __future__ import annotations
 
+import pickle
+import re
 import unittest
 from fractions import Fraction
 from pathlib import Path
 from typing import Callable
 
-from waitfield import (
-    Amplitude,
-    Ccz,
-    Circuit,
-    Cnot,
-    Cz,
-    Gate,
-    ProgramEnded,
-    Readout,
-    Refused,
-    Session,
-    Spot,
-    Z,
-)
+from waitfield import Amplitude, Ccz, Circuit, Cnot, Cz, Gate, ProgramEnded, Readout, Refused, Session, Spot, Z
+from waitfield.gates import listed_term
 
 EXAMPLES = Path(__file__).resolve().parents[3] / "examples"
 
 R1, R2, B1, B2, G1, G2 = (Spot(colour, position) for colour in "rbg" for position in (1, 2))
+
+
+def gates_of(layer: str) -> list[Gate]:
+    """The ccz and cz gates that stand in a layer, which are spelled as terms are."""
+    found = [listed_term(spelled) for spelled in re.findall(r"\(ccz [0-9 ]+\)|\(cz \([^)]+\) \([^)]+\)\)", layer)]
+    return [gate for gate in found if gate is not None]
 
 
 class SessionCase(unittest.TestCase):
@@ -199,11 +195,10 @@ class LargestTest(SessionCase):
 
     def test_the_handover_example(self) -> None:
         """The gates of examples/handover.in, and the first and the last of the sums in handover.out."""
-        lines = (EXAMPLES / "handover.in").read_text("ascii").splitlines()
         self.session.circuit(16)
-        for line in lines:
+        for line in (EXAMPLES / "handover.in").read_text("ascii").splitlines():
             if line.startswith("(layer "):
-                self.session.layer(line[len("(layer ") : -1].replace(") (c", ")|(c").split("|"))  # type: ignore[arg-type]
+                self.session.layer(gates_of(line))
         self.assertEqual(self.session.amplitude("0" * 16, "0" * 16, "0" * 16), Amplitude(10747904, 48))
         found = self.session.amplitude("1000000000000001", "1111000011110000", "0011110000111100", sliced="g")
         self.assertEqual(found, Amplitude(-15466496, 48))
@@ -331,6 +326,10 @@ class RefusalsTest(SessionCase):
         meaning = "a layer touches a position of a colour twice"
         self.assert_refused(lambda: self.session.layer(gates), 14, "(layer (z (r 1)) (cnot r 1 2))", meaning)
         self.assert_unchanged()
+
+    def test_a_refusal_can_be_sent_to_another_process(self) -> None:
+        copied = pickle.loads(pickle.dumps(Refused(9, "(circuit 17)")))
+        self.assertEqual((type(copied), str(copied)), (Refused, "(circuit 17) is refused by 9: a number is out of its range"))
 
 
 class StepsTest(SessionCase):

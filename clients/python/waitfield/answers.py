@@ -7,8 +7,8 @@ from fractions import Fraction
 
 
 @dataclass(frozen=True)
-class Amplitude:
-    """`(amp S n)`: the amplitude S / 2^n of an output string."""
+class Total:
+    """The fraction number / 2^exponent."""
 
     number: int
     exponent: int
@@ -16,22 +16,18 @@ class Amplitude:
     @property
     def fraction(self) -> Fraction:
         return Fraction(self.number, 2**self.exponent)
+
+
+class Amplitude(Total):
+    """`(amp S n)`: the amplitude S / 2^n of an output string."""
 
     @property
     def probability(self) -> Fraction:
         return self.fraction**2
 
 
-@dataclass(frozen=True)
-class Readout:
+class Readout(Total):
     """`(part T n)` or `(one N k)`: the probability T / 2^n or N / 2^k of what was read."""
-
-    number: int
-    exponent: int
-
-    @property
-    def fraction(self) -> Fraction:
-        return Fraction(self.number, 2**self.exponent)
 
     @property
     def probability(self) -> Fraction:

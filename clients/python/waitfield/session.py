@@ -5,8 +5,7 @@ from __future__ import annotations
 import os
 import re
 from operator import index
-from types import TracebackType
-from typing import Callable, Iterable, Optional, Sequence, Type, Union
+from typing import Callable, Iterable, Optional, Sequence, Union
 
 from .answers import Amplitude, Readout
 from .circuit import Circuit
@@ -45,12 +44,7 @@ class Session:
     def __enter__(self) -> Session:
         return self
 
-    def __exit__(
-        self,
-        kind: Optional[Type[BaseException]],
-        error: Optional[BaseException],
-        traceback: Optional[TracebackType],
-    ) -> None:
+    def __exit__(self, *raised: object) -> None:
         self.close()
 
     def close(self) -> None:

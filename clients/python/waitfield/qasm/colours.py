@@ -5,7 +5,7 @@ from __future__ import annotations
 from typing import Mapping, Optional, Tuple, Union
 
 from ..errors import ColoursError
-from ..gates import COLOUR_NAMES, COLOURS, MOST_POSITIONS, Spot
+from ..gates import COLOUR_NAMES, MOST_POSITIONS, Spot
 from ..json_object import json_object
 from .operations import Declared
 
@@ -43,7 +43,7 @@ def spots(qubits: Mapping[str, Declared], colours: Optional[Colours]) -> dict[st
 
 
 def _of_register(declared: Declared) -> Spot:
-    if declared.register not in COLOURS:
+    if declared.register not in COLOUR_NAMES:
         raise declared.place.error(f"register '{declared.register}' is none of r, b, g, and there is no mapping")
     return Spot(declared.register, 1 + declared.index)
 
@@ -65,6 +65,6 @@ def _spot(name: str, value: object) -> Spot:
     if isinstance(value, (tuple, list)) and len(value) == 2:
         colour, position = value
         whole = isinstance(position, int) and not isinstance(position, bool)
-        if isinstance(colour, str) and len(colour) == 1 and colour in COLOURS and whole:
+        if isinstance(colour, str) and colour in COLOUR_NAMES and whole:
             return Spot(colour, position)
     raise ColoursError(f"the mapping has {value!r} for {name}, which is no colour of r, b, g with a position")

@@ -53,7 +53,7 @@ class Program:
 
 def operations(reader: Reader) -> Program:
     """The operations of a whole file."""
-    expansion = _Expansion()
+    expansion = _Expansion(reader.next.place.file)
     expansion.take_all(reader)
     if not expansion.program.qubits:
         raise reader.next.place.error("the circuit has no qubits")
@@ -61,7 +61,7 @@ def operations(reader: Reader) -> Program:
 
 
 class _Expansion:
-    def __init__(self) -> None:
+    def __init__(self, file: str) -> None:
         self.program = Program()
         self._registers: dict[str, Declaration] = {}
         self._definitions: dict[str, Definition] = {}
@@ -70,7 +70,8 @@ class _Expansion:
         self._numbers: dict[str, int] = {}
         self._defined = 0
         self._calls = 0
-        self._including: list[str] = []
+        # The files that are being read, each included by the one before it.
+        self._including = [os.path.normpath(file)]
         for statement in statements(Reader.of_text(LIBRARY, "the library")):
             assert isinstance(statement, Definition)
             self._definitions[statement.name] = statement
@@ -102,7 +103,7 @@ class _Expansion:
             return
         self._count(include.place, len(self._including))
         path = os.path.normpath(os.path.join(os.path.dirname(include.place.file), include.file))
-        if path in self._including or path == os.path.normpath(include.place.file):
+        if path in self._including:
             raise include.place.error(f"'{include.file}' includes itself")
         try:
             with open(path, encoding="utf-8-sig") as file:

@@ -41,6 +41,7 @@ _TOKEN = re.compile(
 
 def tokens(text: str, file: str) -> list[Token]:
     """All tokens of a text, without spaces and comments, and an end of kind 'end' behind them."""
+    text = text.replace("\r\n", "\n").replace("\r", "\n")
     found = []
     line = 1
     at = 0

@@ -47,62 +47,56 @@ class _Step:
         return _Fault(self.number, self.operation.place.error(reason))
 
 
-@dataclass
-class _Wire:
-    """What is known of a wire: the bit that it starts in, and the numbers of the gates between pairs of Hadamards."""
-
-    start: int
-    between: set[int]
-
-
 def circuit_of(program: Program, spots: Mapping[str, Spot]) -> Circuit:
-    """The circuit that a program says, its qubits being at these spots."""
-    wires = _wires(program)
-    between = {number for wire in wires.values() for number in wire.between}
+    """The circuit that a program says, its qubits being at these spots. Of all faults the first one is raised."""
+    faults: list[_Fault] = []
+    ones, between = _wires(program, faults)
     gates: list[Gate] = []
     barriers = set()
     for number, operation in enumerate(program.operations):
         if operation.name == "barrier":
             barriers.add(len(gates))
-        gate = _gate(operation, number in between, spots)
+        try:
+            gate = _gate(operation, number in between, spots)
+        except QasmError as error:
+            faults.append(_Fault(number, error))
+            continue
         if gate is not None:
             gates.append(gate)
-        if len(gates) > MOST_GATES:
-            raise operation.place.error(f"more than {MOST_GATES} gates")
+        if len(gates) == MOST_GATES + 1:
+            faults.append(_Fault(number, operation.place.error(f"more than {MOST_GATES} gates")))
+    if faults:
+        raise min(faults, key=lambda fault: fault.number).error
     m = max(spot.position for spot in spots.values())
-    ones = {spots[qubit] for qubit, wire in wires.items() if wire.start}
-    red, blue, green = ("".join(str(int(Spot(c, p) in ones)) for p in range(1, m + 1)) for c in COLOURS)
+    started = {spots[qubit] for qubit in ones}
+    red, blue, green = ("".join(str(int(Spot(c, p) in started)) for p in range(1, m + 1)) for c in COLOURS)
     digits = [None if qubit is None else spots[qubit] for qubit in program.bits.values()]
     if not any(digits):
         digits = list(spots.values())
     return Circuit(m, tuple(gates), (red, blue, green), spots, tuple(digits), frozenset(barriers))
 
 
-def _wires(program: Program) -> dict[str, _Wire]:
-    """Every wire. Of all faults the first in the program is raised."""
+def _wires(program: Program, faults: list[_Fault]) -> tuple[set[str], set[int]]:
+    """The qubits that start in 1, and the numbers of the gates that stand between two Hadamards on their target."""
     steps: dict[str, list[_Step]] = {qubit: [] for qubit in program.qubits}
     for number, operation in enumerate(program.operations):
         if operation.name != "barrier":
             for qubit in operation.qubits:
                 steps[qubit].append(_Step(number, operation))
-    wires = {}
-    faults = []
+    ones: set[str] = set()
+    between: set[int] = set()
     for qubit, declared in program.qubits.items():
         try:
             if not steps[qubit]:
                 error = declared.place.error(f"{qubit} has no Hadamard, and the first layer has one on every qubit")
                 raise _Fault(len(program.operations), error)
-            wires[qubit] = _wire(qubit, steps[qubit])
+            start, rest = _after_first(qubit, steps[qubit])
+            if start:
+                ones.add(qubit)
+            _to_the_end(qubit, rest, steps[qubit][-1], between)
         except _Fault as fault:
             faults.append(fault)
-    if faults:
-        raise min(faults, key=lambda fault: fault.number).error
-    return wires
-
-
-def _wire(qubit: str, steps: list[_Step]) -> _Wire:
-    start, rest = _after_first(qubit, steps)
-    return _Wire(start, _between(qubit, _before_last(qubit, steps, rest)))
+    return ones, between
 
 
 def _after_first(qubit: str, steps: list[_Step]) -> tuple[int, list[_Step]]:
@@ -118,39 +112,45 @@ def _after_first(qubit: str, steps: list[_Step]) -> tuple[int, list[_Step]]:
     return ones % 2, rest[ones + 1 :]
 
 
-def _before_last(qubit: str, steps: list[_Step], rest: list[_Step]) -> list[_Step]:
-    """What stands before a wire's last Hadamard, behind which it may be measured."""
-    for step, following in zip(rest, rest[1:]):
-        if step.name == "measure":
-            raise following.fault(f"{following.name} on {qubit} behind its measurement")
-    gates = rest[:-1] if rest and rest[-1].name == "measure" else rest
-    if not gates or gates[-1].name != "h":
-        raise steps[-1].fault(f"{qubit} has no Hadamard of the last layer behind its gates")
-    return gates[:-1]
+def _to_the_end(qubit: str, rest: list[_Step], last: _Step, between: set[int]) -> None:
+    """Goes through a wire behind its first Hadamard: gates, a last Hadamard, and perhaps a measurement."""
+    names = [step.name for step in rest]
+    measured = names.index("measure") if "measure" in names else len(rest)
+    gates = rest[:measured]
+    closed = bool(gates) and gates[-1].name == "h"
+    unpaired = _between(qubit, gates[:-1] if closed else gates, between)
+    if not closed:
+        noticed = rest[measured] if measured < len(rest) else last
+        raise noticed.fault(f"{qubit} has no Hadamard of the last layer behind its gates")
+    if unpaired is not None:
+        raise unpaired.fault(f"a Hadamard on {qubit} between the layers, and no other closes a cz or ccz with it")
+    if measured + 1 < len(rest):
+        behind = rest[measured + 1]
+        raise behind.fault(f"{behind.name} on {qubit} behind its measurement")
 
 
-def _between(qubit: str, steps: list[_Step]) -> set[int]:
-    """The gates that stand between pairs of Hadamards on their target, which is this wire."""
-    found: set[int] = set()
+def _between(qubit: str, steps: list[_Step], between: set[int]) -> Optional[_Step]:
+    """Adds the numbers of the gates that stand between pairs of Hadamards on their target, which is this wire.
+
+    Gives the first Hadamard that is in no pair, if there is one.
+    """
     opened: Optional[_Step] = None
     inside: list[int] = []
     for step in steps:
         if step.name == "h" and opened is None:
             opened, inside = step, []
         elif step.name == "h" and inside:
-            found.update(inside)
+            between.update(inside)
             opened = None
         elif opened is not None and step.is_on_target(qubit):
             inside.append(step.number)
         elif opened is not None:
-            break
+            return opened
         elif step.name in ("x", "reset"):
             raise step.fault(f"{step.name} on {qubit} behind its first Hadamard")
         elif step.name == "ccx" and step.is_on_target(qubit):
             raise step.fault(f"ccx on {qubit}, which has no Hadamard right before and behind it, so it is no ccz")
-    if opened is not None:
-        raise opened.fault(f"a Hadamard on {qubit} between the layers, and no other closes a cz or ccz with it")
-    return found
+    return opened
 
 
 def _gate(operation: Operation, between: bool, spots: Mapping[str, Spot]) -> Optional[Gate]:
