@@ -95,8 +95,10 @@ class TestCharacters(ErrorsCase):
     def test_a_line_may_end_in_carriage_return_and_line_feed(self) -> None:
         self.assert_told("// a circuit\r\n\r\nqreg r[0]; // here\r\n", "a register of size 0")
 
-    def test_a_comment_does_not_go_beyond_a_carriage_return(self) -> None:
-        self.assert_told("qreg r[1]; // one qubit\rqreg r[1]; // here\n", "'r' is declared twice")
+    def test_a_carriage_return_alone_ends_a_line_and_its_comment(self) -> None:
+        with self.assertRaises(QasmError) as caught:
+            from_qasm("qreg r[1]; // one qubit\rqreg r[1];\r", file=FILE)
+        self.assertEqual(str(caught.exception), f"{FILE}:2: 'r' is declared twice")
 
 
 class TestStatements(ErrorsCase):
@@ -276,8 +278,10 @@ class TestRegisters(ErrorsCase):
         self.assertEqual(str(caught.exception), f"{FILE}:1: the circuit has no qubits")
 
     def test_a_name_that_is_declared_twice(self) -> None:
-        cases = ["qreg r[2];", "creg r[2];", "qubit r;", "bit[3] r;", "bit r = measure r;", "creg g[1];", "qubit c;"]
-        self.assert_each_told({line: f"'{line[5 + (line[5] == ' ')]}' is declared twice" for line in cases})
+        qubits = ["qreg r[2];", "creg r[2];", "qubit r;", "bit[3] r;", "bit r = measure r;"]
+        self.assert_each_told(qubits, "'r' is declared twice")
+        bits = ["qreg c[2];", "creg c[2];", "qubit c;", "bit[3] c;", "bit c = measure r;"]
+        self.assert_each_told(bits, "'c' is declared twice")
 
     def test_a_register_that_is_not_declared(self) -> None:
         cases = ["z q;", "z q[0];", "cz r[0], q[0];", "barrier q;", "measure q -> c;", "reset q;", "bit d = measure q;"]
@@ -543,7 +547,8 @@ class TestDefinitionsOfKnownGates(ErrorsCase):
             "ccz": "gate ccz a, b, c { ccz a, b, c; }",
             "h": "gate h a { h a; }",
             "z": "gate z a { x a; z a; x a; }",
-            "cz": "gate cz a, b { ctrl @ z b, a; }",
+            "cz": "gate cz a, b { cz b, a; }",
+            "ccx": "gate ccx a, b, c { ccx b, a, c; }",
         }
         self.assert_each_told({text: f"'{name}' is defined by itself" for name, text in cases.items()})
 
@@ -604,17 +609,20 @@ class TestSizes(ErrorsCase):
 
 class TestFirstLayer(ErrorsCase):
     def test_a_gate_before_the_first_hadamard_of_its_qubit(self) -> None:
-        for text, reason in [
-            ("z b[0];", "z on b[0], which has no Hadamard of the first layer yet"),
-            ("cz r[0], b[0];", "cz on b[0], which has no Hadamard of the first layer yet"),
-            ("cz b[0], r[0];", "cz on b[0], which has no Hadamard of the first layer yet"),
-            ("cx b[0], b[1];", "cx on b[0], which has no Hadamard of the first layer yet"),
-            ("ccz r[0], b[0], g[0];", "ccz on b[0], which has no Hadamard of the first layer yet"),
-            ("measure b[0];", "measure on b[0], which has no Hadamard of the first layer yet"),
-        ]:
-            with self.subTest(text=text):
-                declared = "qreg r[2]; qreg b[2]; qreg g[2];\nh r; h g; h b[1];\n"
-                self.assert_told(f"{declared}{text} {MARK}\nh b[0]; h r; h b; h g;\n", reason)
+        cases = {
+            "z b[0];": "z",
+            "cz r[0], b[0];": "cz",
+            "cz b[0], r[0];": "cz",
+            "cx b[0], b[1];": "cx",
+            "cx b[1], b[0];": "cx",
+            "ccz r[0], b[0], g[0];": "ccz",
+            "measure b[0];": "measure",
+        }
+        reason = "%s on b[0], which has no Hadamard of the first layer yet"
+        self.assert_each_told(
+            {line: reason % name for line, name in cases.items()},
+            within=lambda line: f"qreg r[1]; qreg b[2]; qreg g[1];\nh r; h g; h b[1];\n{line}\nh b[0];\nh r; h b; h g;",
+        )
 
     def test_a_qubit_that_nothing_is_done_to(self) -> None:
         text = "qreg r[1];\nqreg b[3]; // here\nh r; h b[0]; h b[2];\nh r; h b[0]; h b[2];\n"
@@ -625,15 +633,13 @@ class TestFirstLayer(ErrorsCase):
         self.assert_told(text, "b[0] has no Hadamard, and the first layer has one on every qubit")
 
     def test_a_qubit_that_is_only_started(self) -> None:
-        for text in ["x b[0];", "reset b[0];", "x b[0]; x b[0];", "reset b[0]; x b[0];"]:
-            with self.subTest(text=text):
-                reason = "b[0] has no Hadamard, and the first layer has one on every qubit"
-                self.assert_told(f"qreg r[1]; qreg b[1];\nh r;\n{text} {MARK}\nh r;\n", reason)
+        cases = ["x b[0];", "reset b[0];", "x b[0]; x b[0];", "reset b[0]; x b[0];"]
+        reason = "b[0] has no Hadamard, and the first layer has one on every qubit"
+        self.assert_each_told(cases, reason, lambda line: f"qreg r[1]; qreg b[1];\nh r;\n{line}\nh r;\n")
 
     def test_a_reset_behind_an_x(self) -> None:
-        with self.assertRaises(QasmError) as caught:
-            from_qasm("qreg r[1];\nx r;\nreset r;\nh r;\nh r;\n", file=FILE)
-        self.assertEqual((caught.exception.file, caught.exception.line), (FILE, 3))
+        text = "qreg r[1];\nx r;\nreset r; // here\nh r;\nh r;\n"
+        self.assert_told(text, "reset on r[0], which has no Hadamard of the first layer yet")
 
 
 class TestLastLayer(ErrorsCase):
@@ -642,10 +648,12 @@ class TestLastLayer(ErrorsCase):
         self.assert_told(text, "r[1] has no Hadamard of the last layer behind its gates")
 
     def test_a_gate_that_no_hadamard_follows(self) -> None:
-        for text in ["z r[0];", "cx r[1], r[0];", "cz r[0], b[0];", "x r[0];", "reset r[0];"]:
-            with self.subTest(text=text):
-                whole = f"qreg r[2]; qreg b[1];\nh r; h b;\nh r[0];\n{text} {MARK}\nh r[1]; h b;\n"
-                self.assert_told(whole, "r[0] has no Hadamard of the last layer behind its gates")
+        cases = ["z r[0];", "cx r[1], r[0];", "cz r[0], b[0];", "x r[0];", "reset r[0];"]
+        self.assert_each_told(
+            cases,
+            "r[0] has no Hadamard of the last layer behind its gates",
+            lambda line: f"qreg r[2]; qreg b[1];\nh r; h b;\nh r[0];\n{line}\nh r[1]; h b;\n",
+        )
 
     def test_a_measurement_that_no_hadamard_precedes(self) -> None:
         text = "qreg r[1]; creg c[1];\nh r;\nz r;\nmeasure r -> c; // here\n"
@@ -656,71 +664,70 @@ class TestLastLayer(ErrorsCase):
         self.assert_told(text, "r[0] has no Hadamard of the last layer behind its gates")
 
     def test_anything_behind_a_measurement(self) -> None:
-        for name, text in [
-            ("h", "h r[0];"),
-            ("x", "x r[0];"),
-            ("z", "z r[0];"),
-            ("cx", "cx r[1], r[0];"),
-            ("cz", "cz b[0], r[0];"),
-            ("reset", "reset r[0];"),
-            ("measure", "measure r[0] -> c[1];"),
-            ("measure", "c[1] = measure r[0];"),
-            ("measure", "measure r[0];"),
-        ]:
-            with self.subTest(text=text):
-                measured = "qreg r[2]; qreg b[1]; creg c[2];\nh r; h b;\nh r[0];\nmeasure r[0] -> c[0];\n"
-                whole = f"{measured}{text} {MARK}\nh r[1]; h b;\n"
-                self.assert_told(whole, f"{name} on r[0] behind its measurement")
+        cases = {
+            "h r[0];": "h",
+            "x r[0];": "x",
+            "z r[0];": "z",
+            "cx r[1], r[0];": "cx",
+            "cz b[0], r[0];": "cz",
+            "reset r[0];": "reset",
+            "measure r[0] -> c[1];": "measure",
+            "c[1] = measure r[0];": "measure",
+            "measure r[0];": "measure",
+        }
+        measured = "qreg r[2]; qreg b[1]; creg c[2];\nh r; h b;\nh r[0];\nmeasure r[0] -> c[0];\n"
+        self.assert_each_told(
+            {line: f"{name} on r[0] behind its measurement" for line, name in cases.items()},
+            within=lambda line: f"{measured}{line}\nh r[1]; h b;\n",
+        )
 
 
 class TestBetweenTheLayers(ErrorsCase):
-    def no_other(self, qubit: str) -> str:
-        return f"a Hadamard on {qubit} between the layers, and no other closes a cz or ccz with it"
+    UNPAIRED = "a Hadamard on g[0] between the layers, and no other closes a cz or ccz with it"
+    UNCLOSED = "ccx on g[0], which has no Hadamard right before and behind it, so it is no ccz"
 
     def test_a_hadamard(self) -> None:
-        self.assert_told(around("h g[1]; // here"), self.no_other("g[1]"))
+        self.assert_told(around("h g[0]; // here"), self.UNPAIRED)
 
     def test_a_hadamard_between_gates(self) -> None:
-        self.assert_told(around("ccz r[0], b[0], g[0];\nh g[0]; // here\ncz b[0], g[0];"), self.no_other("g[0]"))
+        self.assert_told(around("ccz r[0], b[0], g[0];\nh g[0]; // here\ncz b[0], g[0];"), self.UNPAIRED)
+
+    def test_a_hadamard_behind_a_closed_pair(self) -> None:
+        self.assert_told(around("h g[0]; cx b[0], g[0]; h g[0];\nh g[0]; // here\nz g[0];"), self.UNPAIRED)
 
     def test_a_pair_of_hadamards_with_nothing_between(self) -> None:
-        self.assert_told(around("z r[0];\nh r[0]; // here\nh r[0];\nz r[0];"), self.no_other("r[0]"))
+        self.assert_told(around("z g[0];\nh g[0]; // here\nh g[0];\nz g[0];"), self.UNPAIRED)
 
     def test_a_pair_of_hadamards_with_a_barrier_between(self) -> None:
-        self.assert_told(around("h r[0]; // here\nbarrier r;\nh r[0];"), self.no_other("r[0]"))
+        self.assert_told(around("h g[0]; // here\nbarrier g;\nh g[0];"), self.UNPAIRED)
 
     def test_a_pair_of_hadamards_with_another_gate_between(self) -> None:
-        for text in [
+        for gates in [
             "z g[0];",
             "cz b[0], g[0];",
             "ccz r[0], b[0], g[0];",
             "cx g[0], g[1];",
-            "ccx g[0], r[0], b[0];",
             "cx b[0], g[0]; z g[0];",
             "ccx r[0], b[0], g[0]; cx g[0], g[1];",
             "reset g[0];",
         ]:
-            with self.subTest(text=text):
-                self.assert_told(around(f"h g[0]; {MARK}\n{text}\nh g[0];"), self.no_other("g[0]"))
+            with self.subTest(gates=gates):
+                self.assert_told(around(f"h g[0]; {MARK}\n{gates}\nh g[0];"), self.UNPAIRED)
 
     def test_a_pair_of_hadamards_on_a_control(self) -> None:
-        self.assert_told(around("h b[0]; // here\nccx r[0], b[0], g[0];\nh b[0];"), self.no_other("b[0]"))
-
-    def test_a_hadamard_behind_a_closed_pair(self) -> None:
-        self.assert_told(around("h g[0]; cx b[0], g[0]; h g[0];\nh g[0]; // here\nz g[0];"), self.no_other("g[0]"))
+        self.assert_told(around("h g[0]; // here\nccx r[0], g[0], b[0];\nh g[0];"), self.UNPAIRED)
 
     def test_ccx_without_hadamards(self) -> None:
-        reason = "ccx on g[0], which has no Hadamard right before and behind it, so it is no ccz"
-        self.assert_told(around("ccx r[0], b[0], g[0]; // here"), reason)
-
-    def test_ccx_between_the_hadamards_of_the_layers(self) -> None:
-        reason = "ccx on g[0], which has no Hadamard right before and behind it, so it is no ccz"
-        declared = "qreg r[1]; qreg b[1]; qreg g[1];\nh r; h b;\n"
-        self.assert_told(f"{declared}h g;\nccx r, b, g; {MARK}\nh g;\nh r; h b;\n", reason)
+        self.assert_told(around("ccx r[0], b[0], g[0]; // here"), self.UNCLOSED)
 
     def test_ccx_behind_a_closed_pair(self) -> None:
-        reason = "ccx on g[0], which has no Hadamard right before and behind it, so it is no ccz"
-        self.assert_told(around("h g[0]; cx b[0], g[0]; h g[0];\nccx r[0], b[0], g[0]; // here"), reason)
+        self.assert_told(
+            around("h g[0]; cx b[0], g[0]; h g[0];\nccx r[0], b[0], g[0]; // here"), self.UNCLOSED
+        )
+
+    def test_ccx_between_the_hadamards_of_the_layers(self) -> None:
+        declared = "qreg r[1]; qreg b[1]; qreg g[1];\nh r; h b;\n"
+        self.assert_told(f"{declared}h g;\nccx r, b, g; {MARK}\nh g;\nh r; h b;\n", self.UNCLOSED)
 
     def test_an_x(self) -> None:
         self.assert_told(around("x b[1]; // here"), "x on b[1] behind its first Hadamard")
@@ -728,47 +735,40 @@ class TestBetweenTheLayers(ErrorsCase):
     def test_an_x_between_gates(self) -> None:
         self.assert_told(around("cz r[0], b[0];\nx b[0]; // here\nz b[0];"), "x on b[0] behind its first Hadamard")
 
-    def test_an_x_behind_the_last_layer(self) -> None:
-        text = "qreg r[1];\nh r;\nz r;\nh r;\nx r; // here\n"
-        self.assert_told(text, "r[0] has no Hadamard of the last layer behind its gates")
-
     def test_a_reset(self) -> None:
         self.assert_told(around("reset g[0]; // here"), "reset on g[0] behind its first Hadamard")
 
 
 class TestColours(ErrorsCase):
     def test_a_cx_across_colours(self) -> None:
-        for text, said in [
-            ("cx r[0], b[1];", "r[0] is red, b[1] is blue"),
-            ("cx g[1], r[1];", "g[1] is green, r[1] is red"),
-            ("swap b[0], g[0];", "b[0] is blue, g[0] is green"),
-            ("cx r, b;", "r[0] is red, b[0] is blue"),
-            ("ctrl @ x r[0], g[0];", "r[0] is red, g[0] is green"),
-        ]:
-            with self.subTest(text=text):
-                self.assert_told(around(f"{text} {MARK}"), f"a cx across colours: {said}")
+        cases = {
+            "cx r[0], b[1];": "r[0] is red, b[1] is blue",
+            "cx g[1], r[1];": "g[1] is green, r[1] is red",
+            "swap b[0], g[0];": "b[0] is blue, g[0] is green",
+            "cx r, b;": "r[0] is red, b[0] is blue",
+            "ctrl @ x r[0], g[0];": "r[0] is red, g[0] is green",
+        }
+        self.assert_each_told({line: f"a cx across colours: {said}" for line, said in cases.items()})
 
     def test_a_cz_within_a_colour(self) -> None:
-        for text, said in [
-            ("cz r[0], r[1];", "r[0] is red, r[1] is red"),
-            ("ctrl @ z b[1], b[0];", "b[1] is blue, b[0] is blue"),
-        ]:
-            with self.subTest(text=text):
-                self.assert_told(around(f"{text} {MARK}"), f"a cz within a colour: {said}")
+        cases = {
+            "cz r[0], r[1];": "r[0] is red, r[1] is red",
+            "ctrl @ z b[1], b[0];": "b[1] is blue, b[0] is blue",
+        }
+        self.assert_each_told({line: f"a cz within a colour: {said}" for line, said in cases.items()})
 
     def test_a_cz_by_hadamards_within_a_colour_is_told_at_its_cx(self) -> None:
         reason = "a cz within a colour: r[0] is red, r[1] is red"
         self.assert_told(around("h r[1];\ncx r[0], r[1]; // here\nh r[1];"), reason)
 
     def test_a_ccz_with_two_qubits_of_one_colour(self) -> None:
-        for text, said in [
-            ("ccz r[0], b[0], b[1];", "r[0] is red, b[0] is blue, b[1] is blue"),
-            ("ccz g[0], r[0], g[1];", "g[0] is green, r[0] is red, g[1] is green"),
-        ]:
-            with self.subTest(text=text):
-                self.assert_told(around(f"{text} {MARK}"), f"a ccz within a colour: {said}")
+        cases = {
+            "ccz r[0], b[0], b[1];": "r[0] is red, b[0] is blue, b[1] is blue",
+            "ccz g[0], r[0], g[1];": "g[0] is green, r[0] is red, g[1] is green",
+        }
+        self.assert_each_told({line: f"a ccz within a colour: {said}" for line, said in cases.items()})
 
-    def test_a_ccz_by_hadamards_with_two_qubits_of_one_colour(self) -> None:
+    def test_a_ccz_by_hadamards_with_two_qubits_of_one_colour_is_told_at_its_ccx(self) -> None:
         reason = "a ccz within a colour: r[0] is red, r[1] is red, g[0] is green"
         self.assert_told(around("h g[0];\nccx r[0], r[1], g[0]; // here\nh g[0];"), reason)
 
@@ -777,9 +777,9 @@ class TestColours(ErrorsCase):
         self.assert_told(around(text), "a cz within a colour: r[0] is red, r[1] is red")
 
     def test_colours_are_those_of_the_mapping(self) -> None:
-        text = "qreg q[2];\nh q;\ncz q[0], q[1]; // here\nh q;\n"
-        colours = {"q[0]": ("g", 1), "q[1]": ("g", 2)}
-        self.assert_told(text, "a cz within a colour: q[0] is green, q[1] is green", colours)
+        text = "qreg r[1]; qreg b[1];\nh r; h b;\ncz r, b; // here\nh r; h b;\n"
+        colours = {"r[0]": ("g", 1), "b[0]": ("g", 2)}
+        self.assert_told(text, "a cz within a colour: r[0] is green, b[0] is green", colours)
 
     def test_seventeen_qubits_in_a_colour(self) -> None:
         reason = "b[16] would be position 17 of blue, and positions go from 1 to 16"

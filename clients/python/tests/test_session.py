@@ -165,7 +165,7 @@ class FormsTest(SessionCase):
         ]
         self.assertEqual(self.session.terms(), expected)
 
-    def test_terms_of_the_largest_polynomial(self) -> None:
+    def test_a_listing_of_4096_terms(self) -> None:
         """Every CCZ term of 16 positions: 4,096 lines in one answer."""
         self.session.circuit(16)
         for shift in range(256):

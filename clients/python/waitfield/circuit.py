@@ -102,8 +102,11 @@ class Circuit:
     def strings_by_colour(self, strings: Sequence[str], *, unread: str = "") -> tuple[str, ...]:
         """Strings of the colours that have qubits and are read, in the order r, b, g and each with a digit for each
         qubit, position 1 first, as strings of m digits for all colours that are read."""
+        colours = self.colours_read(unread)
+        if len(strings) != len(colours):
+            raise StringError(f"{len(strings)} strings, and the colours read are {', '.join(colours)}")
         found: dict[Spot, str] = {}
-        for colour, string in zip(self.colours_read(unread), strings):
+        for colour, string in zip(colours, strings):
             positions = sorted(spot.position for spot in self.qubits.values() if spot.colour == colour)
             if not string or string.strip("01"):
                 raise StringError(f"{string!r} is no bit string")

@@ -3,6 +3,7 @@
 from __future__ import annotations
 
 import argparse
+import io
 import os
 import re
 import sys
@@ -15,8 +16,9 @@ from .counts import Comparison, compare, read_counts
 from .errors import StringError, WaitfieldError
 from .gates import COLOURS
 from .progress import Bar
-from .qasm import from_qasm, read_mapping, read_qasm
+from .qasm import read_mapping, read_qasm
 from .session import Session
+from .texts import Unreadable, read_text
 from .written import dyadic, over_power, table, with_decimal
 
 # Exit statuses. A verdict that is no pass has one of its own, so that a script can tell it from an error.
@@ -35,20 +37,46 @@ class _Parser(argparse.ArgumentParser):
 def main(arguments: Optional[Sequence[str]] = None) -> int:
     """Runs a command and gives its exit status. An error is one line on standard error."""
     try:
-        given = _parser().parse_args(arguments)
-        status = given.run(given)
+        status = _run(arguments)
         sys.stdout.flush()
-        return int(status)
+        return status
     except BrokenPipeError:
-        # Whoever read the output has gone, and Python must not try to write the rest when it ends.
-        os.dup2(os.open(os.devnull, os.O_WRONLY), sys.stdout.fileno())
+        # Whoever read the output has gone, and need not be told.
+        _give_up_output()
         return FAILED_TO_RUN
-    except (WaitfieldError, OSError) as error:
-        print("waitfield:", " ".join(str(error).split()), file=sys.stderr)
-        return FAILED_TO_RUN
+    except OSError as error:
+        _give_up_output()
+        return _told(f"standard output: {error.strerror}", FAILED_TO_RUN)
+    except WaitfieldError as error:
+        return _told(str(error), FAILED_TO_RUN)
     except KeyboardInterrupt:
-        print("waitfield: interrupted", file=sys.stderr)
-        return INTERRUPTED
+        return _told("interrupted", INTERRUPTED)
+
+
+def _run(arguments: Optional[Sequence[str]]) -> int:
+    if sys.stdout is None:
+        raise _Usage("standard output is closed")
+    if isinstance(sys.stdout, io.TextIOWrapper):
+        # Names of qubits may have letters that the output cannot hold.
+        sys.stdout.reconfigure(errors="backslashreplace")
+    try:
+        given = _parser().parse_args(arguments)
+        return int(given.run(given))
+    except SystemExit as ended:
+        # By --help and --version.
+        return int(ended.code or PASSED)
+
+
+def _told(message: str, status: int) -> int:
+    """Says what went wrong, in one line, where there is a standard error."""
+    if sys.stderr is not None:
+        print("waitfield:", " ".join(message.split()), file=sys.stderr)
+    return status
+
+
+def _give_up_output() -> None:
+    """After a write that failed: Python would write the rest when it ends, and fail again."""
+    os.dup2(os.open(os.devnull, os.O_WRONLY), sys.stdout.fileno())
 
 
 def _parser() -> argparse.ArgumentParser:
@@ -181,19 +209,14 @@ def _unread(given: argparse.Namespace) -> str:
 
 def _circuit(given: argparse.Namespace) -> Circuit:
     colours = None if given.colours is None else read_mapping(_text(given.colours))
-    if given.file == "-":
-        return from_qasm(sys.stdin.read(), colours=colours, file="standard input")
     return read_qasm(given.file, colours=colours)
 
 
 def _text(path: str) -> str:
     try:
-        with open(path, encoding="utf-8-sig") as file:
-            return file.read()
-    except OSError as error:
-        raise WaitfieldError(f"{path} cannot be read: {error.strerror}") from error
-    except UnicodeDecodeError as error:
-        raise WaitfieldError(f"{path} is no text in UTF-8") from error
+        return read_text(path)
+    except Unreadable as error:
+        raise WaitfieldError(f"{path} {error}") from error
 
 
 def _asked(circuit: Circuit, bits: Sequence[str], unread: str, leftmost: str) -> list[tuple[str, tuple[str, ...]]]:
@@ -201,6 +224,8 @@ def _asked(circuit: Circuit, bits: Sequence[str], unread: str, leftmost: str) ->
     measured; else there is an argument for each colour."""
     digits = len(circuit.digits_read(unread))
     colours = circuit.colours_read(unread)
+    if not colours:
+        raise StringError("no qubit is read: the colours that have qubits are unread")
     asked = []
     rest = list(bits)
     while rest:

@@ -7,6 +7,7 @@ from dataclasses import dataclass, field
 from typing import Optional, Sequence
 
 from ..gates import COLOURS, MOST_POSITIONS
+from ..texts import Unreadable, read_text
 from .known import CONTROLLED, KNOWN, LIBRARY, LIBRARY_FILES, SPELLINGS, Operation, is_gate
 from .statements import (
     Barrier,
@@ -69,6 +70,8 @@ class _Expansion:
         # How many definitions came before each: a definition may use only these, so none can use itself.
         self._numbers: dict[str, int] = {}
         self._defined = 0
+        # The known gate whose definition is being looked at.
+        self._looked_at: Optional[str] = None
         self._calls = 0
         # The files that are being read, each included by the one before it.
         self._including = [os.path.normpath(file)]
@@ -106,11 +109,9 @@ class _Expansion:
         if path in self._including:
             raise include.place.error(f"'{include.file}' includes itself")
         try:
-            with open(path, encoding="utf-8-sig") as file:
-                text = file.read()
-        except (OSError, ValueError) as error:
-            reason = getattr(error, "strerror", None) or "no text in UTF-8"
-            raise include.place.error(f"'{include.file}' cannot be read: {reason}") from error
+            text = read_text(path)
+        except Unreadable as error:
+            raise include.place.error(f"'{include.file}' {error}") from error
         self._including.append(path)
         self.take_all(Reader.of_text(text, path))
         self._including.pop()
@@ -143,16 +144,16 @@ class _Expansion:
         self._defined += 1
 
     def _look_at(self, definition: Definition, known: str) -> None:
-        """A definition of a known gate has to be that gate, made of others; but cx may be made of the CX of 2.0."""
+        """A definition of a known gate has to be that gate, made of others."""
         name, qubits = definition.name, definition.qubits
         something_else = definition.place.error(f"'{name}' is defined here as something else than {known}")
         if definition.body is None or definition.parameters or len(qubits) != KNOWN[known]:
             raise something_else
         found: list[Operation] = []
+        self._looked_at = name
         for statement in body_statements(definition):
-            self._expand(statement, dict(zip(qubits, qubits)), self._defined, statement.place, 0, found)
-        if known != "cx" and any(operation.name == known for operation in found):
-            raise definition.place.error(f"'{name}' is defined by itself")
+            self._expand(statement, dict(zip(qubits, qubits)), self._defined, definition.place, 0, found)
+        self._looked_at = None
         if not is_gate(known, qubits, found):
             raise something_else
 
@@ -222,6 +223,8 @@ class _Expansion:
             return
         if len(set(qubits)) != len(qubits):
             raise place.error(f"'{statement.name}' has one qubit twice")
+        if statement.name == self._looked_at:
+            raise place.error(f"'{statement.name}' is defined by itself")
         name = _controlled(statement, SPELLINGS.get(statement.name, statement.name))
         if name in KNOWN:
             self._fits(statement, KNOWN[name], 0)
