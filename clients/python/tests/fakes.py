@@ -71,8 +71,12 @@ def answers_bytes(data: bytes) -> str:
     return f"hear()\nsay({data!r})\n{SILENT}"
 
 
+def never_ends(answer: str) -> str:
+    """Answers one line, and goes on when its input has ended."""
+    return f"hear()\nsay({answer!r})\nwhile True: time.sleep(60)"
+
+
 ENDLESS = "hear()\nwhile True: say(b'a' * 4096)"
-NEVER_ENDS = "hear()\nsay('(ok)')\nwhile True: time.sleep(60)"
 CLOSES_ITS_OUTPUT = "hear()\nsay('(ok)')\nhear()\nos.close(1)\nwhile True: hear()"
 CLOSES_ITS_INPUT = "hear()\nos.close(0)\nsay('(ok)')\ntime.sleep(60)"
 SPEAKS_FIRST = f"say('(ok)')\nnote('.spoke', b'yes')\n{SILENT}"

@@ -36,8 +36,8 @@ INFO = f"{NAME}.dist-info"
 
 # All of Python's library that the package and its building may need.
 ALLOWED = frozenset(
-    """__future__ argparse base64 dataclasses decimal fractions hashlib io json math operator os pathlib re select signal
-    subprocess sys tarfile tempfile time types typing weakref zipfile""".split()
+    """__future__ argparse base64 dataclasses decimal fractions hashlib io json math operator os pathlib re select
+    signal subprocess sys tarfile tempfile time types typing weakref zipfile""".split()
 )
 
 # A folder of its own, in which nothing of the repository is written to.

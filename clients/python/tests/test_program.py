@@ -8,6 +8,7 @@ import os
 import signal
 import subprocess
 import sys
+import time
 import unittest
 from pathlib import Path
 from typing import Callable, Optional
@@ -160,7 +161,7 @@ class LateTest(FakeCase):
         self.assertTrue(is_gone(self.program))
 
     def test_pieces_of_a_line_do_not_give_it_more_time(self) -> None:
-        session = self.session(fakes.answers_in_pieces(0.04, *[b"("] * 50), timeout=0.1)
+        session = self.session(fakes.answers_in_pieces(0.08, b"(", b"o", b"k", b")", b"\n"), timeout=0.15)
         fakes.process_of(self.program)
         with self.assertRaises(NoAnswer):
             session.circuit(1)
@@ -444,18 +445,20 @@ class ClosingTest(FakeCase):
         session.close()
         self.assert_fails(ProgramEnded, "the session is closed", session.terms)
 
-    def test_a_program_that_never_ends_is_killed(self) -> None:
-        session = self.begun(fakes.NEVER_ENDS)
+    def test_a_program_that_never_ends_is_killed_when_its_time_is_over(self) -> None:
+        session = self.begun(fakes.never_ends("(ok)"))
+        begin = time.monotonic()
         with mock.patch.object(program, "CLOSING_TIME", 0.05):
             session.close()
+        self.assertLess(time.monotonic() - begin, 5)
         self.assertTrue(is_gone(self.program))
 
-    def test_a_program_that_still_writes_is_killed(self) -> None:
-        session = self.session(fakes.ENDLESS)
-        fakes.process_of(self.program)
-        with self.assertRaises(UnexpectedAnswer):
-            session.circuit(1)
-        session.close()
+    def test_a_program_that_answers_nonsense_is_killed_at_once(self) -> None:
+        session = self.begun(fakes.never_ends("(ok)\n(ok)"))
+        begin = time.monotonic()
+        with mock.patch.object(program, "CLOSING_TIME", 20), self.assertRaises(UnexpectedAnswer):
+            session.terms()
+        self.assertLess(time.monotonic() - begin, 5)
         self.assertTrue(is_gone(self.program))
 
     def test_the_end_of_a_with_statement_closes_it(self) -> None:

@@ -9,7 +9,7 @@ import tempfile
 import unittest
 from typing import Optional
 
-from waitfield import Ccz, Circuit, Cnot, Cz, Spot, StringError, Z, from_qasm, read_qasm
+from waitfield import Ccz, Circuit, Cnot, Cz, Spot, StringError, Z, from_qasm, read_mapping, read_qasm
 
 BLOCKS = """
 OPENQASM 2.0;
@@ -768,8 +768,16 @@ class TestMapping(unittest.TestCase):
         self.assertEqual(from_qasm(self.TEXT, colours=mixed), from_qasm(self.TEXT, colours=self.COLOURS))
 
     def test_with_lists_as_json_has_them(self) -> None:
-        from_json = json.loads('{"q[0]": ["b", 2], "q[1]": ["r", 1], "q[2]": ["g", 1], "a": ["b", 1]}')
+        from_json = json.loads(json.dumps(self.COLOURS))
+        self.assertEqual(from_json["a"], ["b", 1])
         self.assertEqual(from_qasm(self.TEXT, colours=from_json), from_qasm(self.TEXT, colours=self.COLOURS))
+
+    def test_in_json(self) -> None:
+        self.assertEqual(read_mapping(json.dumps(self.COLOURS)), self.COLOURS)
+
+    def test_in_json_by_numbers(self) -> None:
+        mapping = read_mapping('{"0": ["b", 2], "1": ["r", 1], "q[2]": ["g", 1], "3": ["b", 1]}')
+        self.assertEqual(from_qasm(self.TEXT, colours=mapping), from_qasm(self.TEXT, colours=self.COLOURS))
 
     def test_names_of_registers_are_no_colours_then(self) -> None:
         circuit = from_qasm("qreg r[1]; qreg b[1]; h r; h b; cz r, b; h r; h b;", colours={0: ("g", 3), 1: ("r", 2)})

@@ -6,12 +6,14 @@ The line that an error is told at is marked in the texts by a comment.
 from __future__ import annotations
 
 import errno
+import io
 import os
 import tempfile
 import unittest
 from typing import Callable, Iterable, Mapping, Optional, Union
+from unittest import mock
 
-from waitfield import Circuit, ColoursError, QasmError, from_qasm, read_qasm
+from waitfield import Circuit, ColoursError, QasmError, from_qasm, read_mapping, read_qasm
 
 FILE = "circuit.qasm"
 MARK = "// here"
@@ -547,6 +549,7 @@ class TestDefinitionsOfKnownGates(ErrorsCase):
             "ccz": "gate ccz a, b, c { ccz a, b, c; }",
             "h": "gate h a { h a; }",
             "z": "gate z a { x a; z a; x a; }",
+            "cx": "gate cx a, b { cx a, b; }",
             "cz": "gate cz a, b { cz b, a; }",
             "ccx": "gate ccx a, b, c { ccx b, a, c; }",
         }
@@ -867,6 +870,60 @@ class TestMapping(ErrorsCase):
                 self.assert_refused({**self.FITTING, "a": value}, reason)
 
 
+class TestMappingInJson(unittest.TestCase):
+    def assert_refused(self, text: str, reason: str) -> None:
+        with self.assertRaises(ColoursError) as caught:
+            read_mapping(text)
+        self.assertEqual(str(caught.exception), reason)
+
+    def test_what_is_no_json(self) -> None:
+        for text in ["", "q[0]", '{"q[0]": ["r", 1]', "{'q[0]': ['r', 1]}", '{"q[0]": ["r", 1]} {}']:
+            with self.subTest(text=text):
+                with self.assertRaisesRegex(ColoursError, r"\Athe mapping is not read as a JSON object: .*\Z"):
+                    read_mapping(text)
+
+    def test_what_is_no_object(self) -> None:
+        for text in ["[]", '[["q[0]", "r", 1]]', "null", "1", '"q[0]"']:
+            with self.subTest(text=text):
+                self.assert_refused(text, "the mapping is not read as a JSON object: no JSON object")
+
+    def test_brackets_without_end(self) -> None:
+        self.assert_refused("[" * 100_000, "the mapping is not read as a JSON object: nested too deeply")
+
+    def test_a_qubit_that_stands_there_twice(self) -> None:
+        text = '{"q[0]": ["r", 1], "q[1]": ["b", 1], "q[0]": ["g", 1]}'
+        self.assert_refused(text, "the mapping is not read as a JSON object: 'q[0]' stands there twice")
+
+    def test_a_value_that_is_no_colour_with_a_position(self) -> None:
+        for written, read in [
+            ("1", "1"),
+            ('"r1"', "'r1'"),
+            ('["r"]', "['r']"),
+            ('["r", "1"]', "['r', '1']"),
+            ('["r", 1.0]', "['r', 1.0]"),
+            ('["r", true]', "['r', True]"),
+            ('{"r": 1}', "{'r': 1}"),
+            ("null", "None"),
+        ]:
+            with self.subTest(written=written):
+                reason = f"the mapping has {read} for q[0], which is no colour of r, b, g with a position"
+                self.assert_refused(f'{{"q[0]": {written}}}', reason)
+
+    def test_two_ways_to_write_one_number(self) -> None:
+        for number in ["00", "+0", " 0", "\u0660"]:
+            with self.subTest(number=number):
+                colours = read_mapping(f'{{"0": ["r", 1], "{number}": ["b", 1]}}')
+                with self.assertRaises(ColoursError) as caught:
+                    from_qasm("qreg q[1]; h q; h q;", colours=colours)
+                reason = f"the mapping has {number!r}, which is no qubit of the circuit"
+                self.assertEqual(str(caught.exception), reason)
+
+    def test_a_number_of_5000_digits(self) -> None:
+        colours = read_mapping(f'{{"{DIGITS_5000}": ["r", 1]}}')
+        with self.assertRaisesRegex(ColoursError, "which is no qubit of the circuit"):
+            from_qasm("qreg q[1]; h q; h q;", colours=colours)
+
+
 class TestFirstOfSeveral(ErrorsCase):
     """Of several errors the first in the program is told."""
 
@@ -938,6 +995,9 @@ class TestFiles(unittest.TestCase):
             file.write("// grün\nqreg r[1];".encode("latin-1"))
         self.assert_told(path, path, 1, "is no text in UTF-8")
 
+    def test_a_name_that_no_file_can_have(self) -> None:
+        self.assert_told("a\0b", "a\0b", 1, "cannot be read: no file has this name")
+
     def test_an_error_in_the_file(self) -> None:
         path = self.write("circuit.qasm", "qreg r[1];\nh r;\n")
         self.assert_told(path, path, 2, "r[0] has no Hadamard of the last layer behind its gates")
@@ -950,11 +1010,21 @@ class TestFiles(unittest.TestCase):
         path = self.write("circuit.qasm", 'include "";\n')
         self.assert_told(path, path, 1, f"'' cannot be read: {os.strerror(errno.EISDIR)}")
 
+    def test_an_included_name_that_no_file_can_have(self) -> None:
+        path = self.write("circuit.qasm", '\ninclude "a\0b";\n')
+        self.assert_told(path, path, 2, "'a\0b' cannot be read: no file has this name")
+
+    def test_a_dash_included_is_a_file_and_not_standard_input(self) -> None:
+        standard_input = io.TextIOWrapper(io.BytesIO(b"qreg r[1]; h r; h r;"))
+        with mock.patch("sys.stdin", standard_input), self.assertRaises(QasmError) as caught:
+            from_qasm('include "-";', file="no-folder-before-its-name.qasm")
+        self.assertEqual(caught.exception.reason, f"'-' cannot be read: {os.strerror(errno.ENOENT)}")
+
     def test_an_included_file_that_is_no_text(self) -> None:
         path = self.write("circuit.qasm", '\ninclude "gates.inc";\n')
         with open(self.path("gates.inc"), "wb") as file:
             file.write(b"// gr\xfcn\n")
-        self.assert_told(path, path, 2, "'gates.inc' cannot be read: no text in UTF-8")
+        self.assert_told(path, path, 2, "'gates.inc' is no text in UTF-8")
 
     def test_an_error_in_an_included_file_is_told_there(self) -> None:
         path = self.write("circuit.qasm", 'qreg r[1];\ninclude "parts/layer.inc";\n')

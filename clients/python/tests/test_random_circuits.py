@@ -21,9 +21,10 @@ from .state_vector import Operation, StateVector
 
 COLOURS = "rbg"
 
-# How many circuits are drawn for each seed, and how many strings are asked for at most, by the size m.
+# How many circuits are drawn for each seed, by the size m, and how much of each is asked for at most.
 CIRCUITS = {1: 12, 2: 8, 3: 4}
 STRINGS = 40
+READOUTS = 4
 
 
 def seeds() -> list[str]:
@@ -331,7 +332,7 @@ class Program:
         if self.layout.is_mapped or len(names) == 1:
             qubits = self.layout.qubits(names[0])
             return [statement(f"z {names[0]};", [("z", (qubit,)) for qubit in qubits])]
-        operands = [self.random.choice([name, *self.layout.qubits(name)]) for name in names]
+        operands = [self.random.choice([name, self.random.choice(self.layout.qubits(name))]) for name in names]
         sizes = {self.layout.registers[operand] for operand in operands if operand in names}
         if len(sizes) > 1:
             return []
@@ -405,18 +406,51 @@ def listing(terms: Iterable[frozenset[str]], spots: dict[str, Tuple[str, int]]) 
     return [line for *_, line in sorted(ordered)]
 
 
-Layouts = Callable[[Random, int], Layout]
+def some_digits(random: Random, drawn: Drawn, unread: str = "") -> dict[str, str]:
+    """Random digits for the qubits of the colours that are read."""
+    spots = drawn.layout.spots
+    return {qubit: random.choice("01") for qubit, (colour, _) in spots.items() if colour not in unread}
+
+
+def measured(bits: Iterable[Optional[str]], digits: dict[str, str]) -> str:
+    """The measured string, with a 0 for a bit that nothing is measured into."""
+    return "".join("0" if qubit is None else digits[qubit] for qubit in bits)
+
+
+def converted(drawn: Drawn) -> list[str]:
+    """The lines that the command `convert` writes."""
+    with tempfile.TemporaryDirectory() as folder:
+        path, mapping = os.path.join(folder, "circuit.qasm"), os.path.join(folder, "colours.json")
+        with open(path, "w", encoding="utf-8") as file:
+            file.write(drawn.text)
+        with open(mapping, "w", encoding="utf-8") as file:
+            json.dump(drawn.layout.spots, file)
+        with contextlib.redirect_stdout(io.StringIO()) as output:
+            status = main(["convert", path, *(["--colours", mapping] if drawn.layout.is_mapped else [])])
+    assert status == 0
+    return output.getvalue().splitlines()
+
+
+@dataclass(frozen=True)
+class Case:
+    """A random circuit as it is drawn, as it is read, and as a state vector; and the session that has it."""
+
+    random: Random
+    drawn: Drawn
+    circuit: Circuit
+    state: StateVector
+    session: Session
 
 
 class TestRandomCircuits(unittest.TestCase):
-    """Amplitudes, readouts, terms and compared counts of random circuits are those of the state vector."""
+    """Amplitudes, readouts, compared counts and terms are those of the state vector and of the gates as drawn."""
 
-    def assert_exact(self, layouts: Layouts, m: int) -> None:
+    def assert_exact(self, layout: Callable[[Random, int], Layout], m: int) -> None:
         with Session() as session:
             for seed in seeds():
-                random = Random(f"{seed} {layouts.__name__} {m}")
+                random = Random(f"{seed} {layout.__name__} {m}")
                 for number in range(CIRCUITS[m]):
-                    drawn = Program(random, layouts(random, m)).draw()
+                    drawn = Program(random, layout(random, m)).draw()
                     with self.subTest(seed=seed, number=number, text=drawn.text):
                         self.assert_circuit_exact(session, random, drawn, m)
 
@@ -427,50 +461,44 @@ class TestRandomCircuits(unittest.TestCase):
         state = StateVector(list(drawn.layout.spots))
         state.apply(drawn.operations)
         session.load(circuit)
-        self.assert_amplitudes(session, random, circuit, drawn, state)
+        case = Case(random, drawn, circuit, state, session)
+        self.assert_amplitudes(case)
         for unread in ["r", "b", "g", "rb", "rg", "bg"]:
-            self.assert_readouts(session, random, circuit, drawn, state, unread)
-        self.assert_comparison(session, random, circuit, drawn, state)
+            self.assert_readouts(case, unread)
+        self.assert_comparison(case)
         self.assert_listing(drawn)
 
-    def assert_amplitudes(
-        self, session: Session, random: Random, circuit: Circuit, drawn: Drawn, state: StateVector
-    ) -> None:
+    def assert_amplitudes(self, case: Case) -> None:
         """All strings, or a random choice of them where they are many."""
-        qubits = list(drawn.layout.spots)
-        strings = range(2 ** len(qubits))
+        qubits = list(case.drawn.layout.spots)
+        strings: Sequence[int] = range(2 ** len(qubits))
         if len(strings) > STRINGS:
-            strings = random.sample(strings, STRINGS)
+            strings = case.random.sample(strings, STRINGS)
         for string in strings:
             digits = dict(zip(qubits, f"{string:0{len(qubits)}b}"))
-            asked = circuit.strings(measured(drawn.bits, digits))
-            amplitude = session.amplitude(*asked, sliced=random.choice(COLOURS))
-            self.assertEqual(amplitude.fraction, state.amplitude(digits), digits)
-            self.assertEqual(amplitude.probability, state.probability(digits), digits)
+            asked = case.circuit.strings(measured(case.drawn.bits, digits))
+            amplitude = case.session.amplitude(*asked, sliced=case.random.choice(COLOURS))
+            self.assertEqual(amplitude.fraction, case.state.amplitude(digits), digits)
+            self.assertEqual(amplitude.probability, case.state.probability(digits), digits)
 
-    def assert_readouts(
-        self, session: Session, random: Random, circuit: Circuit, drawn: Drawn, state: StateVector, unread: str
-    ) -> None:
-        for _ in range(4):
-            digits = some_digits(random, drawn, unread)
-            bits = [bit for bit in drawn.bits if bit is None or bit in digits]
-            if not bits:
-                continue
-            readout = session.ask(circuit.strings(measured(bits, digits), unread=unread), unread=unread)
-            self.assertEqual(readout.probability, state.probability(digits), (unread, digits))
+    def assert_readouts(self, case: Case, unread: str) -> None:
+        """Some strings of the colours that are read, if there are any qubits of these."""
+        for _ in range(READOUTS if any(colour not in unread for colour, _ in case.drawn.layout.spots.values()) else 0):
+            digits = some_digits(case.random, case.drawn, unread)
+            bits = measured((bit for bit in case.drawn.bits if bit is None or bit in digits), digits)
+            readout = case.session.ask(case.circuit.strings(bits, unread=unread), unread=unread)
+            self.assertEqual(readout.probability, case.state.probability(digits), (unread, digits))
 
-    def assert_comparison(
-        self, session: Session, random: Random, circuit: Circuit, drawn: Drawn, state: StateVector
-    ) -> None:
+    def assert_comparison(self, case: Case) -> None:
         """Every measured string has the state vector's probability, whichever digit is leftmost."""
-        leftmost = random.choice(["first", "last"])
+        leftmost = case.random.choice(["first", "last"])
         expected = {}
         for _ in range(8):
-            digits = some_digits(random, drawn)
-            bits = measured(drawn.bits, digits)
-            expected[bits if leftmost == "first" else bits[::-1]] = state.probability(digits)
-        counts = {bits: random.randint(1, 100) for bits in expected}
-        compared = compare(session, circuit, counts, leftmost=leftmost)
+            digits = some_digits(case.random, case.drawn)
+            bits = measured(case.drawn.bits, digits)
+            expected[bits if leftmost == "first" else bits[::-1]] = case.state.probability(digits)
+        counts = {bits: case.random.randint(1, 100) for bits in expected}
+        compared = compare(case.session, case.circuit, counts, leftmost=leftmost)
         self.assertEqual({row.bits: row.probability for row in compared.rows}, expected)
         self.assertEqual({row.bits: row.shots for row in compared.rows}, counts)
 
@@ -478,79 +506,51 @@ class TestRandomCircuits(unittest.TestCase):
         """What `convert` writes gives the program the polynomial of the gates."""
         lines = converted(drawn)
         terms = listing(polynomial(drawn.gates), drawn.layout.spots)
-        answers = [*["(ok)"] * len(lines), f"(terms {len(terms)})", *terms]
-        told = subprocess.run([find_program()], input="\n".join([*lines, "(terms)"]), stdout=subprocess.PIPE, text=True)
-        self.assertEqual(told.stdout.splitlines(), answers)
+        given = "\n".join([*lines, "(terms)"])
+        told = subprocess.run([find_program()], input=given, stdout=subprocess.PIPE, check=True, text=True)
+        self.assertEqual(told.stdout.splitlines(), [*["(ok)"] * len(lines), f"(terms {len(terms)})", *terms])
 
-    def test_equal_sizes_1(self) -> None:
+    def test_registers_of_one_size_with_m_1(self) -> None:
         self.assert_exact(equal_sizes, 1)
 
-    def test_equal_sizes_2(self) -> None:
+    def test_registers_of_one_size_with_m_2(self) -> None:
         self.assert_exact(equal_sizes, 2)
 
-    def test_equal_sizes_3(self) -> None:
+    def test_registers_of_one_size_with_m_3(self) -> None:
         self.assert_exact(equal_sizes, 3)
 
-    def test_different_sizes_2(self) -> None:
+    def test_registers_of_different_sizes_with_m_2(self) -> None:
         self.assert_exact(different_sizes, 2)
 
-    def test_different_sizes_3(self) -> None:
+    def test_registers_of_different_sizes_with_m_3(self) -> None:
         self.assert_exact(different_sizes, 3)
 
-    def test_two_registers_1(self) -> None:
+    def test_a_colour_without_qubits_with_m_1(self) -> None:
         self.assert_exact(two_registers, 1)
 
-    def test_two_registers_2(self) -> None:
+    def test_a_colour_without_qubits_with_m_2(self) -> None:
         self.assert_exact(two_registers, 2)
 
-    def test_two_registers_3(self) -> None:
+    def test_a_colour_without_qubits_with_m_3(self) -> None:
         self.assert_exact(two_registers, 3)
 
-    def test_mapped_1(self) -> None:
+    def test_a_mapped_register_with_m_1(self) -> None:
         self.assert_exact(mapped, 1)
 
-    def test_mapped_2(self) -> None:
+    def test_a_mapped_register_with_m_2(self) -> None:
         self.assert_exact(mapped, 2)
 
-    def test_mapped_3(self) -> None:
+    def test_a_mapped_register_with_m_3(self) -> None:
         self.assert_exact(mapped, 3)
 
 
-def some_digits(random: Random, drawn: Drawn, unread: str = "") -> dict[str, str]:
-    """Random digits for the qubits of the colours that are read."""
-    spots = drawn.layout.spots
-    return {qubit: random.choice("01") for qubit, (colour, _) in spots.items() if colour not in unread}
-
-
-def measured(bits: Sequence[Optional[str]], digits: dict[str, str]) -> str:
-    """The measured string, 0 for a bit that nothing is measured into."""
-    return "".join("0" if qubit is None else digits[qubit] for qubit in bits)
-
-
-def converted(drawn: Drawn) -> list[str]:
-    """The lines that the command `convert` writes."""
-    with tempfile.TemporaryDirectory() as folder:
-        path = os.path.join(folder, "circuit.qasm")
-        arguments = ["convert", path]
-        with open(path, "w", encoding="utf-8") as file:
-            file.write(drawn.text)
-        if drawn.layout.is_mapped:
-            arguments += ["--colours", os.path.join(folder, "colours.json")]
-            with open(arguments[-1], "w", encoding="utf-8") as file:
-                json.dump(drawn.layout.spots, file)
-        with contextlib.redirect_stdout(io.StringIO()) as output:
-            status = main(arguments)
-    assert status == 0
-    return output.getvalue().splitlines()
-
-
 class TestDraws(unittest.TestCase):
-    """The random circuits are written in all the ways that they are meant to be."""
+    """The random circuits are of all the kinds that they are meant to be."""
 
     def test_every_spelling_is_drawn(self) -> None:
         random = Random("spellings")
         texts = "".join(Program(random, equal_sizes(random, 3)).draw().text for _ in range(40))
-        for spelling in [
+        spellings = [
             "OPENQASM 2.0;",
             "OPENQASM 3.0;",
             "qreg r[3];",
@@ -559,6 +559,7 @@ class TestDraws(unittest.TestCase):
             "bit[",
             "gate part0(x) a",
             "gate part1 a, b, c {",
+            "{ part0",
             "(pi / 2) ",
             "\nreset ",
             "\nx ",
@@ -566,7 +567,8 @@ class TestDraws(unittest.TestCase):
             "\nh r[0];",
             "\nz b;",
             "\ncz r, b;",
-            "\nccz ",
+            "], b;\n",
+            "\nccz r, g, b;",
             "\nccx ",
             "\nctrl @ cz ",
             "\nctrl(2) @ z ",
@@ -580,9 +582,23 @@ class TestDraws(unittest.TestCase):
             "\nc_g = measure g;",
             "\nmeasure b[0] -> d",
             "] = measure ",
-        ]:
-            with self.subTest(spelling=spelling):
-                self.assertIn(spelling, texts)
+        ]
+        self.assertEqual([spelling for spelling in spellings if spelling not in texts], [])
+
+    def test_mapped_qubits_leave_positions_free(self) -> None:
+        random = Random("gaps")
+        spots = [set(mapped(random, 3).spots.values()) for _ in range(20)]
+        self.assertTrue(any(("g", 3) in each and ("g", 1) not in each for each in spots))
+
+    def test_statements_of_one_qubit_stay_in_their_order(self) -> None:
+        random = Random("order")
+        statements = [statement(f"z {qubit};", [("z", (qubit,))]) for qubit in "abcabcabc"]
+        numbered = [Statement(str(number), touches=each.touches) for number, each in enumerate(statements)]
+        orders = {tuple(int(each.text) for each in interleaved(random, numbered)) for _ in range(20)}
+        self.assertGreater(len(orders), 10)
+        for order in orders:
+            for qubit in range(3):
+                self.assertEqual([number for number in order if number % 3 == qubit], [qubit, qubit + 3, qubit + 6])
 
 
 if __name__ == "__main__":

@@ -329,7 +329,8 @@ class RefusalsTest(SessionCase):
 
     def test_a_refusal_can_be_sent_to_another_process(self) -> None:
         copied = pickle.loads(pickle.dumps(Refused(9, "(circuit 17)")))
-        self.assertEqual((type(copied), str(copied)), (Refused, "(circuit 17) is refused by 9: a number is out of its range"))
+        self.assertIsInstance(copied, Refused)
+        self.assertEqual(str(copied), "(circuit 17) is refused by 9: a number is out of its range")
 
 
 class StepsTest(SessionCase):

@@ -13,12 +13,12 @@ from typing import NoReturn, Optional, Sequence
 from . import __version__
 from .circuit import LEFTMOST, Circuit, plain_digits
 from .counts import Comparison, compare, read_counts
-from .errors import StringError, WaitfieldError
+from .errors import QasmError, StringError, WaitfieldError
 from .gates import COLOURS
 from .progress import Bar
-from .qasm import read_mapping, read_qasm
+from .qasm import from_qasm, read_mapping, read_qasm
 from .session import Session
-from .texts import Unreadable, read_text
+from .texts import Unreadable, read_standard_input, read_text
 from .written import dyadic, over_power, table, with_decimal
 
 # Exit statuses. A verdict that is no pass has one of its own, so that a script can tell it from an error.
@@ -46,7 +46,7 @@ def main(arguments: Optional[Sequence[str]] = None) -> int:
         return FAILED_TO_RUN
     except OSError as error:
         _give_up_output()
-        return _told(f"standard output: {error.strerror}", FAILED_TO_RUN)
+        return _told(error.strerror or str(error), FAILED_TO_RUN)
     except WaitfieldError as error:
         return _told(str(error), FAILED_TO_RUN)
     except KeyboardInterrupt:
@@ -209,7 +209,13 @@ def _unread(given: argparse.Namespace) -> str:
 
 def _circuit(given: argparse.Namespace) -> Circuit:
     colours = None if given.colours is None else read_mapping(_text(given.colours))
-    return read_qasm(given.file, colours=colours)
+    if given.file != "-":
+        return read_qasm(given.file, colours=colours)
+    name = "standard input"
+    try:
+        return from_qasm(read_standard_input(), colours=colours, file=name)
+    except Unreadable as error:
+        raise QasmError(name, 1, str(error)) from error
 
 
 def _text(path: str) -> str:

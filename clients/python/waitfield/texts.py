@@ -1,4 +1,4 @@
-"""Files of text."""
+"""Texts in UTF-8, of files and of standard input, without a byte order mark."""
 
 from __future__ import annotations
 
@@ -6,29 +6,34 @@ import os
 import sys
 from typing import Union
 
-STANDARD_INPUT = "-"
-
 
 class Unreadable(Exception):
-    """A file that cannot be read, and why, as the end of a sentence that begins with its name."""
+    """A text that cannot be read, and why, as the end of a sentence that begins with its name."""
 
 
 def read_text(path: Union[str, "os.PathLike[str]"]) -> str:
-    """The text of a file in UTF-8, without a byte order mark. `-` is standard input."""
+    """The text of a file."""
     try:
-        return _read_bytes(path).decode("utf-8-sig")
+        with open(path, "rb") as file:
+            return _text(file.read())
     except OSError as error:
         raise Unreadable(f"cannot be read: {error.strerror}") from error
-    except UnicodeDecodeError as error:
-        raise Unreadable("is no text in UTF-8") from error
     except ValueError as error:
         raise Unreadable("cannot be read: no file has this name") from error
 
 
-def _read_bytes(path: Union[str, "os.PathLike[str]"]) -> bytes:
-    if path == STANDARD_INPUT:
-        if sys.stdin is None:
-            raise Unreadable("cannot be read: it is closed")
-        return sys.stdin.buffer.read()
-    with open(path, "rb") as file:
-        return file.read()
+def read_standard_input() -> str:
+    """The text of standard input, to its end."""
+    if sys.stdin is None:
+        raise Unreadable("is closed")
+    try:
+        return _text(sys.stdin.buffer.read())
+    except OSError as error:
+        raise Unreadable(f"cannot be read: {error.strerror}") from error
+
+
+def _text(data: bytes) -> str:
+    try:
+        return data.decode("utf-8-sig")
+    except UnicodeDecodeError as error:
+        raise Unreadable("is no text in UTF-8") from error

@@ -7,7 +7,7 @@ from typing import Optional, Union
 
 from ..circuit import Circuit
 from ..errors import QasmError
-from ..texts import STANDARD_INPUT, Unreadable, read_text
+from ..texts import Unreadable, read_text
 from .colours import Colours, read_mapping, spots
 from .operations import operations
 from .tokens import Reader
@@ -29,10 +29,10 @@ def from_qasm(text: str, *, colours: Optional[Colours] = None, file: str = "qasm
 
 
 def read_qasm(path: Union[str, "os.PathLike[str]"], *, colours: Optional[Colours] = None) -> Circuit:
-    """The circuit of a file in OpenQASM, as `from_qasm` reads it. `-` is standard input."""
-    name = "standard input" if path == STANDARD_INPUT else os.fspath(path)
+    """The circuit of a file in OpenQASM, as `from_qasm` reads it."""
+    name = os.fspath(path)
     try:
-        text = read_text(path)
+        text = read_text(name)
     except Unreadable as error:
         raise QasmError(name, 1, str(error)) from error
     return from_qasm(text, colours=colours, file=name)

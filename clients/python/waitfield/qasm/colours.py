@@ -2,6 +2,7 @@
 
 from __future__ import annotations
 
+import re
 from typing import Mapping, Optional, Tuple, Union
 
 from ..errors import ColoursError
@@ -9,7 +10,10 @@ from ..gates import COLOUR_NAMES, MOST_POSITIONS, Spot
 from ..json_object import json_object
 from .operations import Declared
 
-# A qubit by its name or by its number from 0 in the order of declaration, and its colour and position.
+# The number of a qubit in the order of declaration, where it is the name of an entry.
+_NUMBER = re.compile("0|[1-9][0-9]?")
+
+# A qubit by its name or by its number, from 0 on, and its colour and position.
 Colours = Mapping[Union[str, int], Tuple[str, int]]
 
 
@@ -20,7 +24,7 @@ def read_mapping(text: str) -> Colours:
         found = json_object(text)
     except ValueError as error:
         raise ColoursError(f"the mapping is not read as a JSON object: {error}") from error
-    return {int(key) if key.isdecimal() and len(key) < 10 else key: _spot(key, value) for key, value in found.items()}
+    return {int(key) if _NUMBER.fullmatch(key) else key: _spot(key, value) for key, value in found.items()}
 
 
 def spots(qubits: Mapping[str, Declared], colours: Optional[Colours]) -> dict[str, Spot]:
