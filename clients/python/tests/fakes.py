@@ -86,12 +86,12 @@ SPEAKS_FIRST = f"say('(ok)')\nnote('.spoke', b'yes')\n{SILENT}"
 INTERRUPTS = f"hear()\ntime.sleep(0.05)\nos.kill(os.getppid(), signal.SIGINT)\n{SILENT}"
 INTERRUPTS_A_LONG_LINE = "os.read(0, 1)\ntime.sleep(0.05)\nos.kill(os.getppid(), signal.SIGINT)\ntime.sleep(60)"
 
-# Ends where more than one line has come, or comes before the answer is given.
+# Ends at the end of its input, and where more than one line has come or comes before the answer is given.
 ANSWERS_ONE_LINE_AT_A_TIME = r"""
 while True:
     came = os.read(0, 65536)
-    if came.find(b"\n") != len(came) - 1 or select.select([0], [], [], 0.0005)[0]:
-        sys.exit("more than one line came")
+    if came.count(b"\n") != 1 or select.select([0], [], [], 0.0005)[0]:
+        sys.exit(0)
     note(".heard", came)
     say("(ok)")
 """

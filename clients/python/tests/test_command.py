@@ -16,6 +16,7 @@ from unittest import mock
 
 import waitfield
 from waitfield.command import main
+from waitfield.progress import Bar
 
 from . import fakes
 from .fakes import FakeCase, answers, fake
@@ -151,6 +152,12 @@ class ConvertTest(CommandCase):
         marked = self.write_bytes("marked.qasm", b"\xef\xbb\xbf" + ONE_CCZ.encode())
         self.assert_prints(run("convert", marked), "(circuit 1)", "(ccz 1 1 1)")
 
+    def test_lines_may_end_as_on_any_system(self) -> None:
+        for end in ["\n", "\r\n", "\r"]:
+            with self.subTest(end=end):
+                text = f"// Three qubits.\n{ONE_CCZ}".replace("\n", end)
+                self.assert_prints(run("convert", self.write("ended.qasm", text)), "(circuit 1)", "(ccz 1 1 1)")
+
     def test_a_byte_order_mark_on_standard_input_is_passed_over(self) -> None:
         ran = run_apart("convert", "-", given=b"\xef\xbb\xbf" + ONE_CCZ.encode())
         self.assert_prints(ran, "(circuit 1)", "(ccz 1 1 1)")
@@ -173,21 +180,21 @@ class ConvertTest(CommandCase):
 class AmplitudeTest(CommandCase):
     """Amplitudes of output strings, as they are measured or by colours."""
 
-    def test_a_string_as_it_is_measured(self) -> None:
+    def test_a_string_may_be_given_as_it_is_measured(self) -> None:
         self.assert_prints(
             run("amplitude", self.one_ccz, "110"),
             "string  amplitude  probability",
             "110     -2/2^3     1/2^4 = 0.0625",
         )
 
-    def test_a_string_by_colours(self) -> None:
+    def test_a_string_may_be_given_by_colours(self) -> None:
         self.assert_prints(
             run("amplitude", self.one_ccz, "0", "0", "0"),
             "string  amplitude  probability",
             "0 0 0   6/2^3      9/2^4 = 0.5625",
         )
 
-    def test_several_strings_of_both_kinds(self) -> None:
+    def test_several_strings_may_be_of_both_kinds(self) -> None:
         self.assert_prints(
             run("amplitude", self.one_ccz, "000", "1", "1", "0", "0_0 1"),
             "string  amplitude  probability",
@@ -196,7 +203,7 @@ class AmplitudeTest(CommandCase):
             "0_0 1   2/2^3      1/2^4 = 0.0625",
         )
 
-    def test_zero_and_one(self) -> None:
+    def test_probabilities_0_and_1_have_no_decimal(self) -> None:
         red_only = self.write("red.qasm", RED_ONLY)
         self.assert_prints(
             run("amplitude", red_only, "0", "1"),
@@ -215,7 +222,7 @@ class AmplitudeTest(CommandCase):
                     f"{bits}     64/2^6     1",
                 )
 
-    def test_colours_from_a_mapping(self) -> None:
+    def test_colours_may_come_from_a_mapping(self) -> None:
         colours = self.write("map.json", '{"0": ["g", 1], "1": ["b", 1], "2": ["r", 1]}')
         self.assert_prints(
             run("amplitude", self.write("mapped.qasm", MAPPED), "--colours", colours, "001", "1", "0", "0"),
@@ -225,7 +232,7 @@ class AmplitudeTest(CommandCase):
         )
 
     def test_a_circuit_that_is_not_measured_whole_is_asked_by_colours(self) -> None:
-        partly = self.write("partly.qasm", ONE_CCZ.replace("c[1] = measure b[0];", ""))
+        partly = self.write("partly.qasm", ONE_CCZ.split("c[1] =")[0].replace("bit[3]", "bit[1]"))
         self.assert_prints(
             run("amplitude", partly, "0", "0", "0"),
             "string  amplitude  probability",
@@ -251,7 +258,7 @@ class AmplitudeTest(CommandCase):
 class ReadoutTest(CommandCase):
     """Probabilities where one colour or two were not read."""
 
-    def test_one_colour_unread(self) -> None:
+    def test_one_colour_may_be_unread(self) -> None:
         self.assert_prints(
             run("readout", self.one_ccz, "--unread", "r", "0", "0", "01"),
             "string  readout  probability",
@@ -259,7 +266,7 @@ class ReadoutTest(CommandCase):
             "01      1/2^3    1/2^3 = 0.125",
         )
 
-    def test_two_colours_unread(self) -> None:
+    def test_two_colours_may_be_unread(self) -> None:
         self.assert_prints(
             run("readout", self.one_ccz, "--unread", "r", "--unread", "b", "0", "1"),
             "string  readout  probability",
@@ -271,9 +278,9 @@ class ReadoutTest(CommandCase):
         ran = run("readout", self.one_ccz, "--unread", "g", "--unread", "g", "00")
         self.assert_prints(ran, "string  readout  probability", "00      5/2^3    5/2^3 = 0.625")
 
-    def test_a_circuit_without_a_qubit_that_is_read(self) -> None:
-        red_only = self.write("red.qasm", RED_ONLY)
-        self.assert_one_line(run_apart("readout", red_only, "--unread", "r", "0"))
+    def test_a_circuit_without_a_qubit_that_is_read_is_an_error(self) -> None:
+        ran = run_apart("readout", self.write("red.qasm", RED_ONLY), "--unread", "r", "0")
+        self.assert_error("no qubit is read: the colours that have qubits are unread", ran)
 
 
 class CompareTest(CommandCase):
@@ -290,32 +297,32 @@ class CompareTest(CommandCase):
             "digits         r[0] leftmost, g[0] rightmost",
             "qubits read    3",
             "shots          16",
-            "impossible     0 shots on strings of probability 0",
+            "impossible     0 (shots on strings of probability 0)",
             "cross-entropy  5/2 = 2.5",
         ]
 
-    def test_counts_beside_probabilities(self) -> None:
+    def test_counts_stand_beside_probabilities(self) -> None:
         self.assert_prints(run("compare", self.one_ccz, self.counts), *self.rows)
 
-    def test_a_pass(self) -> None:
+    def test_a_threshold_that_is_reached_is_a_pass(self) -> None:
         ran = run("compare", self.one_ccz, self.counts, "--at-least", "5/2")
         self.assert_prints(ran, *self.rows, "verdict        pass: at least 5/2 = 2.5")
 
-    def test_a_fail_has_a_status_of_its_own(self) -> None:
+    def test_a_threshold_that_is_not_reached_is_a_fail_with_a_status_of_its_own(self) -> None:
         ran = run("compare", self.one_ccz, self.counts, "--at-least", "2.501")
         self.assert_prints(ran, *self.rows, "verdict        fail: less than 2501/1000 = 2.501", status=2)
 
-    def test_statuses_of_the_process(self) -> None:
+    def test_a_script_can_tell_pass_error_and_fail_by_the_status(self) -> None:
         for threshold, status in [("2", 0), ("three", 1), ("3", 2)]:
             with self.subTest(threshold=threshold):
                 ran = run_apart("compare", self.one_ccz, self.counts, "--at-least", threshold)
                 self.assertEqual(ran.status, status)
 
-    def test_a_negative_threshold(self) -> None:
+    def test_a_threshold_may_be_negative(self) -> None:
         ran = run("compare", self.one_ccz, self.counts, "--at-least=-1/3")
         self.assert_prints(ran, *self.rows, "verdict        pass: at least -1/3 ~ -0.333333333333")
 
-    def test_rounded_shares_and_impossible_shots(self) -> None:
+    def test_rounded_shares_and_impossible_shots_are_shown(self) -> None:
         counts = self.write("red.json", '{"0": 2, "1": 1}')
         self.assert_prints(
             run("compare", self.write("red.qasm", RED_ONLY), counts),
@@ -326,11 +333,11 @@ class CompareTest(CommandCase):
             "digits         r[0] leftmost, r[0] rightmost",
             "qubits read    1",
             "shots          3",
-            "impossible     1 shots on strings of probability 0",
+            "impossible     1 (shots on strings of probability 0)",
             "cross-entropy  1/3 ~ 0.333333333333",
         )
 
-    def test_one_colour_unread(self) -> None:
+    def test_one_colour_may_be_unread(self) -> None:
         counts = self.write("unread.json", '{"0 0": 1}')
         self.assert_prints(
             run("compare", self.one_ccz, counts, "--unread", "b"),
@@ -340,11 +347,11 @@ class CompareTest(CommandCase):
             "digits         r[0] leftmost, g[0] rightmost",
             "qubits read    2",
             "shots          1",
-            "impossible     0 shots on strings of probability 0",
+            "impossible     0 (shots on strings of probability 0)",
             "cross-entropy  3/2 = 1.5",
         )
 
-    def test_two_colours_unread(self) -> None:
+    def test_two_colours_may_be_unread(self) -> None:
         counts = self.write("unread.json", '{"0": 1, "1": 1}')
         lines = run("compare", self.one_ccz, counts, "--unread", "b", "--unread", "r").out.splitlines()
         self.assertEqual(lines[1], "0       1      1/2 = 0.5  3/2^2 = 0.75")
@@ -370,23 +377,23 @@ class CompareTest(CommandCase):
 class UsageTest(CommandCase):
     """Arguments that cannot be taken."""
 
-    def test_no_command(self) -> None:
+    def test_a_command_is_needed(self) -> None:
         self.assert_error(f"the following arguments are required: COMMAND {TELLS_MORE}", run())
 
-    def test_an_unknown_command(self) -> None:
+    def test_an_unknown_command_is_an_error(self) -> None:
         ran = run("solve", self.one_ccz)
         self.assert_one_line(ran)
         self.assertIn("argument COMMAND: invalid choice: 'solve'", ran.err)
 
-    def test_an_unknown_option(self) -> None:
+    def test_an_unknown_option_is_an_error(self) -> None:
         ran = run("convert", self.one_ccz, "--fast")
         self.assert_error(f"unrecognized arguments: --fast {TELLS_MORE}", ran)
 
-    def test_no_file(self) -> None:
+    def test_a_file_is_needed(self) -> None:
         more = "('python -m waitfield convert --help' tells more)"
         self.assert_error(f"the following arguments are required: FILE.qasm {more}", run("convert"))
 
-    def test_no_bits(self) -> None:
+    def test_bits_are_needed(self) -> None:
         more = "('python -m waitfield amplitude --help' tells more)"
         self.assert_error(f"the following arguments are required: BITS {more}", run("amplitude", self.one_ccz))
 
@@ -394,18 +401,18 @@ class UsageTest(CommandCase):
         more = "('python -m waitfield readout --help' tells more)"
         self.assert_error(f"the following arguments are required: --unread {more}", run("readout", self.one_ccz, "00"))
 
-    def test_a_colour_that_is_none(self) -> None:
+    def test_a_colour_that_is_none_is_an_error(self) -> None:
         ran = run("readout", self.one_ccz, "--unread", "k", "00")
         self.assert_one_line(ran)
         self.assertIn("argument --unread: invalid choice: 'k'", ran.err)
 
-    def test_all_three_colours_unread(self) -> None:
+    def test_all_three_colours_unread_are_an_error(self) -> None:
         unread = ["--unread", "r", "--unread", "b", "--unread", "g"]
         self.assert_error("at most two colours may be unread", run("readout", self.one_ccz, *unread, "0"))
         counts = self.write("counts.json", '{"0": 1}')
         self.assert_error("at most two colours may be unread", run("compare", self.one_ccz, counts, *unread))
 
-    def test_a_threshold_that_is_no_number(self) -> None:
+    def test_a_threshold_that_is_no_number_is_an_error(self) -> None:
         counts = self.write("counts.json", '{"000": 1}')
         more = "('python -m waitfield compare --help' tells more)"
         for threshold in ["much", "1/0", "1e999999999", "nan", ""]:
@@ -413,7 +420,7 @@ class UsageTest(CommandCase):
                 ran = run("compare", self.one_ccz, counts, "--at-least", threshold)
                 self.assert_error(f"argument --at-least: {threshold!r} is no number {more}", ran)
 
-    def test_the_version(self) -> None:
+    def test_the_version_is_that_of_the_package(self) -> None:
         self.assert_prints(run_apart("--version"), f"waitfield {waitfield.__version__}")
 
     def test_help_names_every_command(self) -> None:
@@ -426,47 +433,51 @@ class UsageTest(CommandCase):
 class FilesTest(CommandCase):
     """Files that cannot be read, or that say what cannot be taken."""
 
-    def test_a_file_that_is_missing(self) -> None:
+    def test_a_file_that_is_missing_is_an_error(self) -> None:
         path = str(self.folder / "none.qasm")
         self.assert_error(f"{path}:1: cannot be read: No such file or directory", run("convert", path))
 
-    def test_a_folder(self) -> None:
+    def test_a_folder_is_an_error(self) -> None:
         self.assert_error(f"{self.folder}:1: cannot be read: Is a directory", run("convert", str(self.folder)))
 
-    def test_a_file_that_is_no_text(self) -> None:
+    def test_a_file_that_is_no_text_is_an_error(self) -> None:
         path = self.write_bytes("bytes.qasm", b"qubit r; \xff")
         self.assert_error(f"{path}:1: is no text in UTF-8", run("convert", path))
 
-    def test_standard_input_that_is_no_text(self) -> None:
+    def test_standard_input_that_is_no_text_is_an_error(self) -> None:
         ran = run_apart("convert", "-", given=b"qubit r; // \xff", PYTHONIOENCODING="utf-8:strict")
-        self.assert_one_line(ran)
+        self.assert_error("standard input:1: is no text in UTF-8", ran)
 
-    def test_a_name_of_two_lines(self) -> None:
+    def test_standard_input_that_is_closed_is_an_error(self) -> None:
+        ran = run_apart("convert", "-", redirected="<&-")
+        self.assert_error("standard input:1: is closed", ran)
+
+    def test_a_name_of_two_lines_is_told_in_one(self) -> None:
         text = f"{self.folder}/two lines.qasm:1: cannot be read: No such file or directory"
         self.assert_error(text, run("convert", str(self.folder / "two\nlines.qasm")))
 
-    def test_a_circuit_that_cannot_be_said(self) -> None:
+    def test_a_circuit_that_cannot_be_said_is_an_error_with_file_and_line(self) -> None:
         path = self.write("crossed.qasm", "qubit r; qubit b;\nh r; h b;\ncx r, b;\nh r; h b;\n")
         self.assert_error(f"{path}:3: a cx across colours: r is red, b is blue", run("convert", path))
 
-    def test_a_circuit_on_standard_input_that_cannot_be_said(self) -> None:
+    def test_a_circuit_on_standard_input_that_cannot_be_said_is_an_error(self) -> None:
         ran = run("convert", "-", given=b"qubit r;\nh r;\nt r;\n")
         self.assert_one_line(ran)
         self.assertTrue(ran.err.startswith("waitfield: standard input:3: 't' is none of "), ran.err)
 
-    def test_nothing_on_standard_input(self) -> None:
+    def test_nothing_on_standard_input_is_an_error(self) -> None:
         self.assert_error("standard input:1: the circuit has no qubits", run_apart("convert", "-"))
 
-    def test_counts_that_cannot_be_read(self) -> None:
+    def test_counts_that_cannot_be_read_are_an_error(self) -> None:
         path = str(self.folder / "none.json")
         ran = run("compare", self.one_ccz, path)
         self.assert_error(f"{path} cannot be read: No such file or directory", ran)
 
-    def test_counts_that_are_no_text(self) -> None:
+    def test_counts_that_are_no_text_are_an_error(self) -> None:
         path = self.write_bytes("bytes.json", b'{"000": 1, "\xff": 1}')
         self.assert_error(f"{path} is no text in UTF-8", run("compare", self.one_ccz, path))
 
-    def test_counts_that_are_none(self) -> None:
+    def test_counts_that_are_none_are_an_error(self) -> None:
         for text, error in [
             ("[]", "the counts are not read as a JSON object: no JSON object"),
             ("{}", "there are no shots"),
@@ -478,7 +489,7 @@ class FilesTest(CommandCase):
             with self.subTest(text=text):
                 self.assert_error(error, run("compare", self.one_ccz, self.write("counts.json", text)))
 
-    def test_mappings_that_are_none(self) -> None:
+    def test_mappings_that_are_none_are_an_error(self) -> None:
         mapped = self.write("mapped.qasm", MAPPED)
         wrong = "which is no colour of r, b, g with a position"
         for text, error in [
@@ -495,7 +506,7 @@ class FilesTest(CommandCase):
             with self.subTest(text=text):
                 self.assert_error(error, run("convert", mapped, "--colours", self.write("map.json", text)))
 
-    def test_a_mapping_that_cannot_be_read(self) -> None:
+    def test_a_mapping_that_cannot_be_read_is_an_error(self) -> None:
         ran = run("convert", self.one_ccz, "--colours", str(self.folder))
         self.assert_error(f"{self.folder} cannot be read: Is a directory", ran)
 
@@ -503,7 +514,7 @@ class FilesTest(CommandCase):
 class BitsTest(CommandCase):
     """Strings that do not fit the circuit."""
 
-    def test_strings_that_do_not_fit(self) -> None:
+    def test_strings_that_do_not_fit_are_an_error(self) -> None:
         for bits, error in [
             (["00"], "'00' has 2 digits: a string has 3, or an argument for each of rbg"),
             (["0000"], "'0000' has 4 digits: a string has 3, or an argument for each of rbg"),
@@ -518,7 +529,7 @@ class BitsTest(CommandCase):
             with self.subTest(bits=bits):
                 self.assert_error(error, run("amplitude", self.one_ccz, *bits))
 
-    def test_readouts_that_do_not_fit(self) -> None:
+    def test_readouts_that_do_not_fit_are_an_error(self) -> None:
         for bits, error in [
             (["000"], "'000' has 3 digits: a string has 2, or an argument for each of rg"),
             (["0", "0", "0"], "'0' has 1 digits: a string has 2, or an argument for each of rg"),
@@ -528,7 +539,7 @@ class BitsTest(CommandCase):
             with self.subTest(bits=bits):
                 self.assert_error(error, run("readout", self.one_ccz, "--unread", "b", *bits))
 
-    def test_a_1_at_a_bit_that_nothing_is_measured_into(self) -> None:
+    def test_a_1_at_a_bit_that_nothing_is_measured_into_is_an_error(self) -> None:
         spare = self.write("spare.qasm", ONE_CCZ.replace("bit[3]", "bit[4]"))
         text = "'0001' has a 1 at a classical bit that nothing is measured into"
         self.assert_error(text, run("amplitude", spare, "0001"))
@@ -537,12 +548,12 @@ class BitsTest(CommandCase):
 class ProgramTest(CommandCase):
     """A program that cannot be run, or does not do as it should."""
 
-    def test_no_program(self) -> None:
+    def test_a_program_that_is_missing_is_an_error(self) -> None:
         none = str(self.folder / "none")
         ran = run_apart("amplitude", self.one_ccz, "000", WAITFIELD_SESSION=none)
         self.assert_error(f"{none} cannot be run: No such file or directory", ran)
 
-    def test_a_program_that_ends(self) -> None:
+    def test_a_program_that_ends_is_an_error(self) -> None:
         path = fake(self.folder, answers("(ok)", "(ok)", "(left 2)", then=fakes.complains(b"out of memory\n", 3)))
         counts = self.write("counts.json", '{"000": 1}')
         ended = f"{path} has ended with status 3 before it answered"
@@ -554,17 +565,17 @@ class ProgramTest(CommandCase):
             with self.subTest(command=command[0]):
                 self.assert_error(f"{ended} {line}, saying: out of memory", run(*command, "--session", path))
 
-    def test_a_program_that_answers_nonsense(self) -> None:
+    def test_a_program_that_answers_nonsense_is_an_error(self) -> None:
         path = fake(self.folder, answers("hello"))
         text = f"{path} answers (circuit 1) by 'hello', which is no answer to it"
         self.assert_error(text, run("amplitude", self.one_ccz, "000", "--session", path))
 
-    def test_a_program_that_refuses(self) -> None:
+    def test_a_refusal_is_an_error(self) -> None:
         path = fake(self.folder, answers("(ok)", "(no 9)"))
         text = "(ccz 1 1 1) is refused by 9: a number is out of its range"
         self.assert_error(text, run("amplitude", self.one_ccz, "000", "--session", path))
 
-    def test_an_interrupt(self) -> None:
+    def test_an_interrupt_is_told_and_ends_the_program(self) -> None:
         before = signal.signal(signal.SIGINT, signal.default_int_handler)
         self.addCleanup(signal.signal, signal.SIGINT, before)
         path = fake(self.folder, fakes.INTERRUPTS)
@@ -589,34 +600,36 @@ class StreamsTest(CommandCase):
             os.close(writing)
         return ran.returncode, ran.stderr
 
-    def test_a_pipe_that_nobody_reads(self) -> None:
+    def test_output_that_nobody_reads_is_no_error_to_be_told(self) -> None:
         self.assertEqual(self.run_unread("convert", self.one_ccz), (1, b""))
         self.assertEqual(self.run_unread("amplitude", self.one_ccz, "000"), (1, b""))
 
-    def test_help_that_nobody_reads(self) -> None:
+    def test_help_that_nobody_reads_is_no_error_to_be_told(self) -> None:
         status, told = self.run_unread("--help")
         self.assertEqual(told, b"")
         self.assertIn(status, (0, 1))
 
-    def test_an_output_that_takes_no_more(self) -> None:
-        ran = run_apart("convert", self.one_ccz, redirected="> /dev/full")
-        self.assert_one_line(ran)
-        self.assertIn("No space left on device", ran.err)
+    def test_an_output_that_takes_no_more_is_an_error(self) -> None:
+        self.assert_error("No space left on device", run_apart("convert", self.one_ccz, redirected="> /dev/full"))
 
-    def test_no_standard_output(self) -> None:
-        self.assert_one_line(run_apart("convert", self.one_ccz, redirected=">&-"))
+    def test_standard_output_that_is_closed_is_an_error(self) -> None:
+        self.assert_error("standard output is closed", run_apart("convert", self.one_ccz, redirected=">&-"))
 
-    def test_no_standard_error(self) -> None:
+    def test_standard_error_may_be_closed(self) -> None:
         ran = run_apart("amplitude", self.one_ccz, "000", redirected="2>&-")
         self.assert_prints(ran, "string  amplitude  probability", "000     6/2^3      9/2^4 = 0.5625")
 
-    def test_an_output_that_cannot_hold_every_name(self) -> None:
+    def test_an_error_is_not_told_elsewhere_where_standard_error_is_closed(self) -> None:
+        ran = run_apart("convert", str(self.folder / "none.qasm"), redirected="2>&-")
+        self.assertEqual(ran, Ran(1, "", ""))
+
+    def test_names_that_the_output_cannot_hold_are_escaped(self) -> None:
         named = self.write("named.qasm", "qubit[1] \u00e9;\nh \u00e9; h \u00e9;\n")
         colours = self.write("map.json", '{"0": ["r", 1]}')
         counts = self.write("counts.json", '{"0": 1}')
         ran = run_apart("compare", named, counts, "--colours", colours, PYTHONIOENCODING="ascii")
-        self.assertNotIn("Traceback", ran.err)
-        self.assertLessEqual(ran.err.count("\n"), 1)
+        self.assertEqual((ran.status, ran.err), (0, ""))
+        self.assertIn("digits         \\xe9[0] leftmost, \\xe9[0] rightmost\n", ran.out)
 
 
 def bar(percent: int) -> str:
@@ -665,11 +678,25 @@ class BarTest(CommandCase):
         error = f"waitfield: {path} has ended with status 3 before it answered (step 1)\r\n"
         self.assertEqual((status, out, told), (1, "", bar(50) + WIPED + error))
 
+    def test_a_bar_that_would_look_the_same_is_not_drawn_again(self) -> None:
+        terminal = Terminal()
+        with Bar(terminal) as drawn:
+            for done in [500, 501, 509, 1000]:
+                drawn(done, 1000)
+        self.assertEqual(terminal.getvalue(), bar(50) + bar(100) + WIPED)
+
     def test_no_bar_where_nothing_is_summed(self) -> None:
         self.assertEqual(self.run_on_terminal("convert", self.one_ccz)[2], "")
 
     def test_no_bar_where_standard_error_is_no_terminal(self) -> None:
         self.assertEqual(run_apart("amplitude", self.one_ccz, "000").err, "")
+
+
+class Terminal(io.StringIO):
+    """A terminal that keeps what it is told."""
+
+    def isatty(self) -> bool:
+        return True
 
 
 def read_all(terminal: int) -> str:

@@ -157,7 +157,7 @@ class ComparisonTest(unittest.TestCase):
     def test_the_cross_entropy_of_unlikely_strings_is_negative(self) -> None:
         self.assertEqual(self.compared(ONE_CCZ, {"111": 5}).cross_entropy, Fraction(-1, 2))
 
-    def test_one_colour_unread(self) -> None:
+    def test_one_colour_may_be_unread(self) -> None:
         for unread in "rbg":
             with self.subTest(unread=unread):
                 found = self.compared(ONE_CCZ, {"00": 6, "01": 2}, unread=unread)
@@ -165,7 +165,7 @@ class ComparisonTest(unittest.TestCase):
                 self.assertEqual(found.qubits, 2)
                 self.assertEqual(found.cross_entropy, 4 * Fraction(6 * 5 + 2 * 1, 8 * 8) - 1)
 
-    def test_two_colours_unread(self) -> None:
+    def test_two_colours_may_be_unread(self) -> None:
         found = self.compared(ONE_CCZ, {"0": 1, "1": 1}, unread="rb")
         self.assertEqual([row.probability for row in found.rows], [Fraction(3, 4), Fraction(1, 4)])
         self.assertEqual((found.qubits, found.cross_entropy), (1, 0))
@@ -239,24 +239,24 @@ class FaultsTest(unittest.TestCase):
             with self.assertRaisesRegex(Refused, "there is no circuit yet"):
                 session.terms()
 
-    def test_two_keys_that_are_one_string(self) -> None:
+    def test_two_keys_that_are_one_string_are_an_error(self) -> None:
         self.assert_error(CountsError, "'000' and '0 00' are one string", {"000": 1, "111": 1, "0 00": 2})
 
-    def test_a_key_of_another_length(self) -> None:
+    def test_a_key_of_another_length_is_an_error(self) -> None:
         self.assert_error(StringError, "'00' has 2 digits, and 3 are read", {"000": 1, "00": 1})
         self.assert_error(StringError, "'00 00' has 4 digits, and 3 are read", {"00 00": 1})
         self.assert_error(StringError, "'000' has 3 digits, and 2 are read", {"000": 1}, unread="r")
 
-    def test_a_key_with_other_characters(self) -> None:
-        for bits in ["0x0", "00 2", "", " ", "0b1", "００0", "-00"]:
+    def test_a_key_with_other_characters_is_an_error(self) -> None:
+        for bits in ["0x0", "00 2", "", " ", "0b1", "\uff10\uff100", "-00"]:
             with self.subTest(bits=bits):
                 self.assert_error(StringError, f"{bits!r} is no bit string", {"000": 1, bits: 1})
 
-    def test_a_1_at_a_bit_that_nothing_is_measured_into(self) -> None:
+    def test_a_1_at_a_bit_that_nothing_is_measured_into_is_an_error(self) -> None:
         text = "'1001' has a 1 at a classical bit that nothing is measured into"
         self.assert_error(StringError, text, {"1001": 1}, three("z r;", bits=4))
 
-    def test_a_qubit_that_is_not_measured(self) -> None:
+    def test_a_qubit_that_is_not_measured_makes_its_colour_unread(self) -> None:
         circuit = three("z r;", "c[0] = measure r[0]; c[2] = measure g[0];")
         text = "b[0] is not measured, so blue is not read whole; it may be named as unread"
         self.assert_error(StringError, text, {"000": 1}, circuit)
@@ -264,17 +264,17 @@ class FaultsTest(unittest.TestCase):
             found = compare(session, circuit, {"100": 1}, unread="b")
         self.assertEqual((found.rows[0].probability, found.qubits), (1, 2))
 
-    def test_shots_that_are_no_whole_number(self) -> None:
+    def test_shots_that_are_no_whole_number_are_an_error(self) -> None:
         for shots, shown in [(1.0, "1.0"), (True, "True"), (-1, "-1"), ("1", "'1'")]:
             with self.subTest(shots=shots):
                 text = f"'000' has {shown} shots, which is no whole number from 0 on"
                 self.assert_error(CountsError, text, {"000": shots})  # type: ignore[dict-item]
 
-    def test_no_shots(self) -> None:
+    def test_no_shots_are_an_error(self) -> None:
         self.assert_error(CountsError, "there are no shots", {})
         self.assert_error(CountsError, "there are no shots", {"000": 0})
 
-    def test_three_colours_unread(self) -> None:
+    def test_three_colours_unread_are_an_error(self) -> None:
         with Session() as session, self.assertRaises(ValueError) as raised:
             compare(session, ONE_CCZ, {"0": 1}, unread="rbg")
         self.assertEqual(str(raised.exception), "at most two of r, b, g may be unread, not 'rbg'")

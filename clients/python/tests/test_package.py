@@ -226,7 +226,7 @@ class SourceTest(unittest.TestCase):
 
 def imported(tree: ast.Module) -> set[str]:
     """The modules that a file imports, by their first names, other than those of its own package."""
-    found = set()
+    found: set[str] = set()
     for node in ast.walk(tree):
         if isinstance(node, ast.Import):
             found.update(alias.name.partition(".")[0] for alias in node.names)

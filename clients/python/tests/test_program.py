@@ -52,35 +52,35 @@ class EndingTest(FakeCase):
         self.assert_fails(ProgramEnded, reason, session.terms)
         self.assertTrue(is_gone(self.program))
 
-    def test_before_the_first_line(self) -> None:
+    def test_an_end_before_the_first_line_is_told(self) -> None:
         self.assert_ended(self.session(""), "has ended with status 0")
 
-    def test_in_place_of_an_answer(self) -> None:
+    def test_an_end_in_place_of_an_answer_is_told(self) -> None:
         self.assert_ended(self.begun(fakes.ENDS), "has ended with status 0")
 
-    def test_between_two_lines(self) -> None:
+    def test_an_end_between_two_lines_is_told(self) -> None:
         self.assert_ended(self.begun(""), "has ended with status 0")
 
-    def test_within_a_line(self) -> None:
+    def test_an_end_within_a_line_is_told(self) -> None:
         self.assert_ended(self.session("hear()\nsay(b'(o')"), "has ended with status 0")
 
-    def test_within_a_listing(self) -> None:
+    def test_an_end_within_a_listing_is_told(self) -> None:
         session = self.session(answers("(ok)", "(terms 3)\n(ccz 1 1 1)", then=""))
         session.circuit(1)
         reason = f"{self.program} has ended with status 0 before it answered (terms)"
         self.assert_fails(ProgramEnded, reason, session.terms)
         self.assert_fails(ProgramEnded, reason, session.terms)
 
-    def test_with_a_status(self) -> None:
+    def test_an_exit_status_is_told(self) -> None:
         self.assert_ended(self.begun(fakes.exits(3)), "has ended with status 3")
 
-    def test_by_a_signal(self) -> None:
+    def test_a_signal_is_told_by_its_name(self) -> None:
         self.assert_ended(self.begun(fakes.killed(signal.SIGKILL)), "was ended by SIGKILL")
 
-    def test_by_a_signal_that_has_no_name(self) -> None:
+    def test_a_signal_without_a_name_is_told_by_its_number(self) -> None:
         self.assert_ended(self.begun(fakes.killed(35)), "was ended by signal 35")
 
-    def test_by_somebody_else(self) -> None:
+    def test_an_end_by_somebody_else_is_told(self) -> None:
         session = self.begun(fakes.SILENT)
         os.kill(fakes.process_of(self.program), signal.SIGTERM)
         self.assert_ended(session, "was ended by SIGTERM")
@@ -103,13 +103,13 @@ class EndingTest(FakeCase):
             session.terms()
         self.assertEqual(len(str(raised.exception).splitlines()), 1, str(raised.exception))
 
-    def test_its_output_closed_while_it_goes_on(self) -> None:
+    def test_an_output_closed_by_a_program_that_goes_on_is_told(self) -> None:
         session = self.session(fakes.CLOSES_ITS_OUTPUT)
         session.circuit(1)
         with mock.patch.object(program, "CLOSING_TIME", 0.05):
             self.assert_ended(session, "has closed its output")
 
-    def test_its_input_closed_while_it_goes_on(self) -> None:
+    def test_an_input_closed_by_a_program_that_goes_on_is_told(self) -> None:
         session = self.session(fakes.CLOSES_ITS_INPUT)
         session.circuit(1)
         with mock.patch.object(program, "CLOSING_TIME", 0.05):
@@ -153,7 +153,7 @@ class LateTest(FakeCase):
         reason = "the program was ended, since it did not answer (circuit 1) in time"
         self.assert_fails(ProgramEnded, reason, lambda: session.circuit(1))
 
-    def test_a_program_that_never_answers(self) -> None:
+    def test_a_program_that_never_answers_is_not_waited_for_longer(self) -> None:
         session = self.session(fakes.SILENT, timeout=0.05)
         fakes.process_of(self.program)
         late = f"{self.program} has not answered (circuit 1) in 0.05 seconds"
@@ -275,6 +275,11 @@ class NonsenseTest(FakeCase):
         session = self.opened("(part 4 6)")
         self.assert_nonsense(lambda: session.step(4), "(step 4)", "(part 4 6)")
 
+    def test_a_dropped_sum_has_no_slices(self) -> None:
+        session = self.opened("(ok)", "(left 3)")
+        session.drop()
+        self.assert_nonsense(lambda: session.step(1), "(step 1)", "(left 3)")
+
     def test_no_total_is_given_where_no_sum_is_open(self) -> None:
         session = self.begun("(amp 6 3)")
         self.assert_nonsense(lambda: session.step(2), "(step 2)", "(amp 6 3)")
@@ -340,16 +345,15 @@ class NonsenseTest(FakeCase):
                 self.assert_nonsense(lambda: session.step(4), "(step 4)", answer)
 
     def test_numbers_of_slices_terms_and_refusals_have_no_zero_in_front(self) -> None:
-        for answer, ask in [("(left 02)", "amp"), ("(terms 00)", "terms"), ("(no 04)", "terms")]:
+        session = self.begun("(left 02)")
+        self.assert_nonsense(lambda: session.amp("r", "0", "0", "0"), "(amp r 0 0 0)", "(left 02)")
+        for answer in ["(no 04)", "(terms 00)", "(terms 01)\n(z (r 1))"]:
             with self.subTest(answer=answer):
                 session = self.begun(answer)
-                if ask == "amp":
-                    self.assert_nonsense(lambda: session.amp("r", "0", "0", "0"), "(amp r 0 0 0)", answer)
-                else:
-                    self.assert_nonsense(session.terms, "(terms)", answer)
+                self.assert_nonsense(session.terms, "(terms)", answer.split("\n")[0])
 
     def test_bytes_that_are_no_ascii_are_no_answer(self) -> None:
-        for data, shown in [(b"(ok)\xff", "(ok)\\xff"), ("(left ４)".encode(), "(left \\xef\\xbc\\x94)")]:
+        for data, shown in [(b"(ok)\xff", "(ok)\\xff"), ("(left \uff14)".encode(), "(left \\xef\\xbc\\x94)")]:
             with self.subTest(data=data):
                 session = self.session(fakes.answers_bytes(data + b"\n"))
                 self.assert_nonsense(lambda: session.circuit(1), "(circuit 1)", shown)
@@ -374,26 +378,26 @@ class UnaskedTest(FakeCase):
         self.assert_fails(ProgramEnded, f"the program was ended, since it said {came!r} unasked", session.terms)
         self.assertTrue(is_gone(self.program))
 
-    def test_two_answers_to_one_line(self) -> None:
+    def test_two_answers_to_one_line_are_noticed(self) -> None:
         session = self.session(answers("(ok)\n(ok)"))
         session.circuit(1)
         self.assert_noticed(session, "(ok)\n")
         self.assertEqual(heard(self.program), ["(circuit 1)"])
 
-    def test_a_second_answer_that_comes_later(self) -> None:
+    def test_a_second_answer_that_comes_later_is_noticed(self) -> None:
         session = self.session(f"hear()\nsay('(ok)')\n{fakes.SPEAKS_FIRST}")
         session.circuit(1)
         fakes.awaited(Path(self.program + ".spoke"))
         self.assert_noticed(session, "(ok)\n")
         self.assertEqual(heard(self.program), ["(circuit 1)"])
 
-    def test_a_listing_with_more_terms_than_it_says(self) -> None:
+    def test_a_listing_with_more_terms_than_it_says_is_noticed(self) -> None:
         session = self.session(answers("(ok)", "(terms 1)\n(z (r 1))\n(z (b 1))"))
         session.circuit(1)
         self.assertEqual(session.terms(), [Z(Spot("r", 1))])
         self.assert_noticed(session, "(z (b 1))\n")
 
-    def test_output_before_the_first_line(self) -> None:
+    def test_output_before_the_first_line_is_noticed(self) -> None:
         session = self.session(fakes.SPEAKS_FIRST)
         fakes.awaited(Path(self.program + ".spoke"))
         self.assert_noticed(session, "(ok)\n")
@@ -498,7 +502,7 @@ class InterruptTest(FakeCase):
         before = signal.signal(signal.SIGINT, signal.default_int_handler)
         self.addCleanup(signal.signal, signal.SIGINT, before)
 
-    def test_while_an_answer_is_awaited(self) -> None:
+    def test_an_interrupt_while_an_answer_is_awaited_ends_the_program(self) -> None:
         session = self.session(fakes.INTERRUPTS)
         with self.assertRaises(KeyboardInterrupt):
             session.circuit(1)
@@ -506,7 +510,7 @@ class InterruptTest(FakeCase):
         reason = "the program was ended, since the answer to (circuit 1) was not waited for"
         self.assert_fails(ProgramEnded, reason, session.terms)
 
-    def test_between_a_line_and_its_answer(self) -> None:
+    def test_an_interrupt_between_a_line_and_its_answer_ends_the_program(self) -> None:
         session = self.session(fakes.answers_late(0.1, "(ok)", "(ok)"))
         with mock.patch.object(Program, "_next_line", side_effect=KeyboardInterrupt):
             with self.assertRaises(KeyboardInterrupt):
@@ -514,7 +518,7 @@ class InterruptTest(FakeCase):
         reason = "the program was ended, since the answer to (circuit 1) was not waited for"
         self.assert_fails(ProgramEnded, reason, lambda: session.ccz(1, 1, 1))
 
-    def test_while_a_line_is_sent(self) -> None:
+    def test_an_interrupt_while_a_line_is_sent_ends_the_program(self) -> None:
         session = self.session(fakes.INTERRUPTS_A_LONG_LINE)
         with self.assertRaises(KeyboardInterrupt):
             session.one("r", "0" * 1_000_000)
@@ -523,7 +527,7 @@ class InterruptTest(FakeCase):
         reason = f"the program was ended, since the answer to {shown} was not waited for"
         self.assert_fails(ProgramEnded, reason, session.terms)
 
-    def test_it_does_not_reach_the_program(self) -> None:
+    def test_an_interrupt_does_not_reach_the_program_itself(self) -> None:
         session = self.session(answers("(ok)"))
         session.circuit(1)
         self.assertEqual(os.getpgid(fakes.process_of(self.program)), fakes.process_of(self.program))
@@ -537,22 +541,30 @@ class RunningTest(FakeCase):
         text = f"{path} cannot be run: {os.strerror(number)}"
         self.assert_fails(SessionError, text, lambda: Session(path))
 
-    def test_a_path_that_does_not_exist(self) -> None:
+    def test_a_path_that_does_not_exist_cannot_be_run(self) -> None:
         self.assert_cannot_be_run(self.folder / "none", errno.ENOENT)
 
-    def test_a_folder(self) -> None:
+    def test_a_folder_cannot_be_run(self) -> None:
         self.assert_cannot_be_run(self.folder, errno.EACCES)
 
-    def test_a_file_that_is_not_executable(self) -> None:
+    def test_a_file_that_is_not_executable_cannot_be_run(self) -> None:
         file = self.folder / "text"
         file.write_text("(ok)")
         self.assert_cannot_be_run(file, errno.EACCES)
 
-    def test_a_file_that_is_no_program(self) -> None:
+    def test_a_file_that_is_no_program_cannot_be_run(self) -> None:
         file = self.folder / "text"
         file.write_text("(ok)")
         file.chmod(0o700)
         self.assert_cannot_be_run(file, errno.ENOEXEC)
+
+    def test_a_name_alone_is_a_path_in_the_current_folder(self) -> None:
+        """Not one to be looked for in the folders of PATH, as a shell does."""
+        name = Path(fake(self.folder, answers("(ok)"))).name
+        self.addCleanup(os.chdir, os.getcwd())
+        os.chdir(self.folder)
+        with Session(name) as session:
+            session.circuit(1)
 
     def test_a_path_may_be_a_path_object(self) -> None:
         with Session(Path(fake(self.folder, answers("(ok)")))) as session:

@@ -432,6 +432,10 @@ class TestDefinitions(GatesCase):
         middle = "gate swap a, b { cx b, a; cx a, b; cx b, a; } swap g[0], g[1];"
         self.assert_gates(middle, "(cnot g 2 1)", "(cnot g 1 2)", "(cnot g 2 1)")
 
+    def test_swap_is_that_of_the_libraries_until_it_is_defined(self) -> None:
+        middle = "swap g[0], g[1]; barrier; gate swap a, b { cx b, a; } swap g[0], g[1];"
+        self.assert_gates(middle, "(cnot g 1 2)", "(cnot g 2 1)", "(cnot g 1 2)", "(cnot g 2 1)")
+
     def test_the_built_in_cx_of_openqasm_2(self) -> None:
         self.assert_gates("CX b[1], b[0];", "(cnot b 2 1)")
 

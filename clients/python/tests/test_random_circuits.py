@@ -79,13 +79,30 @@ class Definition:
 # The qubits of each colour.
 Coloured = Dict[str, List[str]]
 
+DEFINITIONS_OF_CCZ = [
+    "gate ccz a, b, c { h c; ccx a, b, c; h c; }",
+    "gate ccz a, b, c { h a; ccx c, b, a; h a; }",
+    "// ccz is not defined",
+]
+
+# Ways to write a gate in OpenQASM 2 and 3, beside its name.
+OTHER_NAMES = {
+    2: {"cx": ["CX"]},
+    3: {
+        "cx": ["ctrl @ x"],
+        "cz": ["ctrl @ z"],
+        "ccx": ["ctrl @ cx", "ctrl(2) @ x"],
+        "ccz": ["ctrl @ cz", "ctrl(2) @ z"],
+    },
+}
+
 
 class Gates:
-    """Draws gates on qubits, and definitions of gates, in the spelling of OpenQASM 2.0 or 3.0."""
+    """Draws gates on qubits, and definitions of gates, in the spelling of OpenQASM 2 or 3."""
 
-    def __init__(self, random: Random, spelling: int) -> None:
+    def __init__(self, random: Random, version: int) -> None:
         self.random = random
-        self.spelling = spelling
+        self.version = version
         self.definitions: list[Definition] = []
 
     def define(self, one_colour: bool, colours: int) -> None:
@@ -95,87 +112,75 @@ class Gates:
         body = [each for _ in range(self.random.randint(0, 3)) for each in self.draw(coloured)]
         if self.random.random() < 0.3:
             body.insert(self.random.randint(0, len(body)), Statement(f"barrier {', '.join(qubits)};"))
-        parameters = self.random.choice(["", "", "(x)"])
-        self.definitions.append(Definition(f"part{len(self.definitions)}", qubits, one_colour, tuple(body), parameters))
+        name, parameters = f"part{len(self.definitions)}", self.random.choice(["", "", "(x)"])
+        self.definitions.append(Definition(name, qubits, one_colour, tuple(body), parameters))
 
     def draw(self, coloured: Coloured) -> list[Statement]:
         """One gate or several, as statements that follow each other."""
-        drawers: list[Callable[[Coloured], Optional[list[Statement]]]] = [
-            self.single,
-            self.pair,
-            self.triple,
-            self.within_colour,
-            self.between_hadamards,
-            self.defined,
-        ]
+        kinds = [self.across_colours, self.within_colour, self.between_hadamards, self.defined]
         while True:
-            drawn = self.random.choice(drawers)(coloured)
-            if drawn is not None:
+            (kind,) = self.random.choices(kinds, [4, 2, 2, 2])
+            drawn = kind(coloured)
+            if drawn:
                 return drawn
 
-    def of_colours(self, coloured: Coloured, number: int) -> Optional[tuple[str, ...]]:
-        """Qubits of as many different colours."""
-        present = [colour for colour in coloured if coloured[colour]]
-        if len(present) < number:
-            return None
-        return tuple(self.random.choice(coloured[colour]) for colour in self.random.sample(present, number))
+    def across_colours(self, coloured: Coloured) -> list[Statement]:
+        """z, cz or ccz."""
+        qubits = self.of_colours(coloured, self.random.randint(1, 3))
+        gate = "c" * (len(qubits) - 1) + "z"
+        return [self.call(gate, qubits, [(gate, qubits)])] if qubits else []
 
-    def of_one_colour(self, coloured: Coloured) -> Optional[tuple[str, ...]]:
-        """Two qubits of one colour."""
-        fitting = [qubits for qubits in coloured.values() if len(qubits) > 1]
-        return tuple(self.random.sample(self.random.choice(fitting), 2)) if fitting else None
-
-    def single(self, coloured: Coloured) -> Optional[list[Statement]]:
-        (qubit,) = self.of_colours(coloured, 1) or ("",)
-        return [statement(f"z {qubit};", [("z", (qubit,))])] if qubit else None
-
-    def pair(self, coloured: Coloured) -> Optional[list[Statement]]:
-        qubits = self.of_colours(coloured, 2)
-        if qubits is None:
-            return None
-        name = self.random.choice(["cz", "ctrl @ z"] if self.spelling == 3 else ["cz"])
-        return [statement(f"{name} {', '.join(qubits)};", [("cz", qubits)])]
-
-    def triple(self, coloured: Coloured) -> Optional[list[Statement]]:
-        qubits = self.of_colours(coloured, 3)
-        if qubits is None:
-            return None
-        name = self.random.choice(["ccz", "ctrl @ cz", "ctrl(2) @ z"] if self.spelling == 3 else ["ccz"])
-        return [statement(f"{name} {', '.join(qubits)};", [("ccz", qubits)])]
-
-    def within_colour(self, coloured: Coloured) -> Optional[list[Statement]]:
+    def within_colour(self, coloured: Coloured) -> list[Statement]:
+        """cx or swap."""
         qubits = self.of_one_colour(coloured)
-        if qubits is None:
-            return None
-        if self.random.random() < 0.2:
-            back = qubits[::-1]
-            return [statement(f"swap {', '.join(qubits)};", [("cx", qubits), ("cx", back), ("cx", qubits)])]
-        name = self.random.choice(["cx", "ctrl @ x"] if self.spelling == 3 else ["cx", "CX"])
-        return [statement(f"{name} {', '.join(qubits)};", [("cx", qubits)])]
+        gates = [("cx", qubits)]
+        if qubits and self.random.random() < 0.2:
+            gates = [("cx", qubits), ("cx", qubits[::-1]), ("cx", qubits)]
+            return [self.call("swap", qubits, gates)]
+        return [self.call("cx", qubits, gates)] if qubits else []
 
-    def between_hadamards(self, coloured: Coloured) -> Optional[list[Statement]]:
+    def between_hadamards(self, coloured: Coloured) -> list[Statement]:
         """x, cx and ccx on one target between two Hadamards, each of which is z, cz or ccz."""
-        colour = self.random.choice([colour for colour in coloured if coloured[colour]])
-        target = self.random.choice(coloured[colour])
-        others = {other: qubits for other, qubits in coloured.items() if other != colour}
+        (target,) = self.of_colours(coloured, 1)
+        others = {colour: qubits for colour, qubits in coloured.items() if target not in qubits}
         inside = []
         for _ in range(self.random.randint(1, 3)):
-            controls = self.of_colours(others, self.random.randint(0, 2)) or ()
-            name = "c" * len(controls)
-            operation, gate = (name + "x", (*controls, target)), (name + "z", (*controls, target))
-            inside.append(statement(f"{name}x {', '.join(operation[1])};", [operation], [gate]))
+            controls = self.of_colours(others, self.random.randint(0, 2))
+            name, qubits = "c" * len(controls), (*controls, target)
+            inside.append(self.call(f"{name}x", qubits, [(f"{name}x", qubits)], [(f"{name}z", qubits)]))
         hadamard = statement(f"h {target};", [("h", (target,))], [])
         return [hadamard, *inside, hadamard]
 
-    def defined(self, coloured: Coloured) -> Optional[list[Statement]]:
+    def defined(self, coloured: Coloured) -> list[Statement]:
+        """A gate by its definition."""
         if not self.definitions:
-            return None
+            return []
         definition = self.random.choice(self.definitions)
-        if definition.one_colour:
-            qubits = self.of_one_colour(coloured)
-        else:
-            qubits = self.of_colours(coloured, len(definition.qubits))
-        return None if qubits is None else [definition.call(qubits)]
+        number = len(definition.qubits)
+        qubits = self.of_one_colour(coloured) if definition.one_colour else self.of_colours(coloured, number)
+        return [definition.call(qubits)] if qubits else []
+
+    def call(
+        self,
+        name: str,
+        qubits: Sequence[str],
+        operations: Iterable[Operation],
+        gates: Optional[Iterable[Operation]] = None,
+    ) -> Statement:
+        """A call of a known gate by one of its names."""
+        names = [name, *OTHER_NAMES[self.version].get(name, [])]
+        return statement(f"{self.random.choice(names)} {', '.join(qubits)};", operations, gates)
+
+    def of_colours(self, coloured: Coloured, number: int) -> tuple[str, ...]:
+        """Qubits of as many different colours, or none if there are not as many."""
+        present = [colour for colour in coloured if coloured[colour]]
+        chosen = self.random.sample(present, number) if len(present) >= number else []
+        return tuple(self.random.choice(coloured[colour]) for colour in chosen)
+
+    def of_one_colour(self, coloured: Coloured) -> tuple[str, ...]:
+        """Two qubits of one colour, or none if no colour has two."""
+        fitting = [qubits for qubits in coloured.values() if len(qubits) > 1]
+        return tuple(self.random.sample(self.random.choice(fitting), 2)) if fitting else ()
 
 
 def interleaved(random: Random, statements: Iterable[Statement]) -> list[Statement]:
@@ -266,8 +271,8 @@ class Program:
     def __init__(self, random: Random, layout: Layout) -> None:
         self.random = random
         self.layout = layout
-        self.spelling = random.choice([2, 3])
-        self.gates = Gates(random, self.spelling)
+        self.version = random.choice([2, 3])
+        self.gates = Gates(random, self.version)
         self.bits: dict[str, list[Optional[str]]] = {}
 
     def draw(self) -> Drawn:
@@ -286,9 +291,9 @@ class Program:
 
     def head(self) -> list[str]:
         """The version, the library, the definitions and the declarations."""
-        three = self.spelling == 3
+        three = self.version == 3
         lines = ["OPENQASM 3.0;", 'include "stdgates.inc";'] if three else ["OPENQASM 2.0;", 'include "qelib1.inc";']
-        lines.append("gate ccz a, b, c { h c; ccx a, b, c; h c; }")
+        lines.append(self.random.choice(DEFINITIONS_OF_CCZ))
         lines += [definition.text for definition in self.gates.definitions]
         for name, size in self.layout.registers.items():
             lines.append(f"qubit[{size}] {name};" if three else f"qreg {name}[{size}];")
@@ -318,6 +323,7 @@ class Program:
         return statements
 
     def middle(self) -> list[Statement]:
+        """Gates on single qubits and on registers."""
         statements: list[Statement] = []
         for _ in range(self.random.randint(2, 6 + 3 * len(self.layout.spots))):
             if self.random.random() < 0.2:
@@ -365,7 +371,7 @@ class Program:
         return statements
 
     def measurement(self, measured: str, into: str, qubits: Sequence[str]) -> Statement:
-        arrow = self.spelling == 2 or self.random.random() < 0.3
+        arrow = self.version == 2 or self.random.random() < 0.3
         text = f"measure {measured} -> {into};" if arrow else f"{into} = measure {measured};"
         return Statement(text, touches=frozenset(qubits))
 
@@ -376,7 +382,7 @@ class Program:
         for _ in range(self.random.randint(0, 5)):
             some = ", ".join(self.random.sample(qubits, self.random.randint(1, len(qubits))))
             texts = [f"barrier {some};", f"barrier {', '.join(self.layout.registers)};", f"// h {qubits[0]};"]
-            texts += ["/* x\n * z */"] + ["barrier;"] * (self.spelling == 3)
+            texts += ["/* x\n * z */"] + ["barrier;"] * (self.version == 3)
             found.insert(self.random.randint(0, len(found)), Statement(self.random.choice(texts)))
         return found
 
@@ -482,9 +488,11 @@ class TestRandomCircuits(unittest.TestCase):
             self.assertEqual(amplitude.probability, case.state.probability(digits), digits)
 
     def assert_readouts(self, case: Case, unread: str) -> None:
-        """Some strings of the colours that are read, if there are any qubits of these."""
-        for _ in range(READOUTS if any(colour not in unread for colour, _ in case.drawn.layout.spots.values()) else 0):
+        """Some strings of the colours that are read, if there are qubits of these."""
+        for _ in range(READOUTS):
             digits = some_digits(case.random, case.drawn, unread)
+            if not digits:
+                continue
             bits = measured((bit for bit in case.drawn.bits if bit is None or bit in digits), digits)
             readout = case.session.ask(case.circuit.strings(bits, unread=unread), unread=unread)
             self.assertEqual(readout.probability, case.state.probability(digits), (unread, digits))
@@ -549,7 +557,7 @@ class TestDraws(unittest.TestCase):
 
     def test_every_spelling_is_drawn(self) -> None:
         random = Random("spellings")
-        texts = "".join(Program(random, equal_sizes(random, 3)).draw().text for _ in range(40))
+        texts = "".join(Program(random, equal_sizes(random, 3)).draw().text for _ in range(80))
         spellings = [
             "OPENQASM 2.0;",
             "OPENQASM 3.0;",
@@ -570,6 +578,7 @@ class TestDraws(unittest.TestCase):
             "], b;\n",
             "\nccz r, g, b;",
             "\nccx ",
+            "\nctrl(2) @ x ",
             "\nctrl @ cz ",
             "\nctrl(2) @ z ",
             "\nswap ",

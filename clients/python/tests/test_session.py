@@ -182,6 +182,17 @@ class FormsTest(SessionCase):
         self.assertEqual(self.number("00", "10", "00"), 64)
 
 
+class SeveralTest(SessionCase):
+    """Each session has a program of its own."""
+
+    def test_sessions_do_not_know_of_each_other(self) -> None:
+        with Session() as other:
+            self.one_ccz()
+            other.circuit(2)
+            self.assertEqual((self.session.terms(), other.terms()), ([Ccz(1, 1, 1)], []))
+        self.assertEqual(self.session.terms(), [Ccz(1, 1, 1)])
+
+
 class LargestTest(SessionCase):
     """m = 16, 48 qubits."""
 
@@ -322,7 +333,7 @@ class RefusalsTest(SessionCase):
         self.assertEqual(self.session.terms(), [])
 
     def test_14_a_layer_that_touches_a_position_twice(self) -> None:
-        gates = [Z(R1), Cnot("r", 1, 2)]
+        gates: list[Gate] = [Z(R1), Cnot("r", 1, 2)]
         meaning = "a layer touches a position of a colour twice"
         self.assert_refused(lambda: self.session.layer(gates), 14, "(layer (z (r 1)) (cnot r 1 2))", meaning)
         self.assert_unchanged()
@@ -461,12 +472,13 @@ class NumbersTest(SessionCase):
 
     def test_a_string_with_a_line_feed_is_not_sent(self) -> None:
         self.one_ccz()
-        for ask in [
+        wrong: list[Callable[[], object]] = [
             lambda: self.session.start("0 0 0)\n(ccz 1 1", "1", "1"),
             lambda: self.session.amp("r", "0", "0", "0)\n(drop"),
             lambda: self.session.cnot("r\n", 1, 2),
-        ]:
-            with self.assertRaises(ValueError):
+        ]
+        for number, ask in enumerate(wrong):
+            with self.subTest(number=number), self.assertRaises(ValueError):
                 ask()
         self.assertEqual(self.session.terms(), [Ccz(1, 1, 1)])
         self.assertEqual(self.session.amplitude("0", "0", "0"), Amplitude(6, 3))
@@ -496,9 +508,9 @@ class AskTest(SessionCase):
     def test_a_string_for_each_colour_is_needed(self) -> None:
         session = self.one_ccz()
         for strings, unread, text in [
-            (["0", "0"], "", "3 strings are needed, one for each of r, b, g"),
-            (["0", "0", "0"], "b", "2 strings are needed, one for each of r, g"),
-            ([], "rb", "1 strings are needed, one for each of g"),
+            ("00", "", "2 strings, where each of r, b, g has one"),
+            ("000", "b", "3 strings, where each of r, g has one"),
+            ("", "rb", "0 strings, where each of g has one"),
         ]:
             with self.subTest(unread=unread), self.assertRaises(ValueError) as raised:
                 session.ask(strings, unread=unread)

@@ -186,7 +186,7 @@ def _summary(circuit: Circuit, found: Comparison, unread: str, given: argparse.N
         ["digits", f"{digits[0]} leftmost, {digits[-1]} rightmost"],
         ["qubits read", str(found.qubits)],
         ["shots", str(found.shots)],
-        ["impossible", f"{found.impossible} shots on strings of probability 0"],
+        ["impossible", f"{found.impossible} (shots on strings of probability 0)"],
         ["cross-entropy", with_decimal(found.cross_entropy, str(found.cross_entropy))],
     ]
     if given.at_least is not None:

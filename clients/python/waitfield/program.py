@@ -44,6 +44,20 @@ def find_program(path: Union[str, "os.PathLike[str]", None] = None) -> str:
     raise SessionError(f"the program session is not found: give its path, set {VARIABLE}, or build it by 'rt check'")
 
 
+def _started(path: str, errors: IO[bytes]) -> subprocess.Popen[bytes]:
+    """The program at a path, which is not looked for elsewhere. In a session of its own an interrupt from the keyboard
+    reaches Python alone."""
+    return subprocess.Popen(
+        [path],
+        executable=os.path.abspath(path),
+        stdin=subprocess.PIPE,
+        stdout=subprocess.PIPE,
+        stderr=errors,
+        bufsize=0,
+        start_new_session=True,
+    )
+
+
 def _finish(process: subprocess.Popen[bytes], errors: IO[bytes]) -> None:
     """Ends the input, waits for the program to end, and ends it if it does not."""
     assert process.stdin is not None and process.stdout is not None
@@ -85,21 +99,12 @@ class Program:
     def __init__(self, path: str, timeout: Optional[float] = None) -> None:
         self.path = path
         self._timeout = timeout
-        self._errors = tempfile.TemporaryFile()
         self._unread = b""
         self._over: Optional[str] = None
         try:
-            # In a session of its own an interrupt from the keyboard reaches Python alone.
-            self._process = subprocess.Popen(
-                [path],
-                stdin=subprocess.PIPE,
-                stdout=subprocess.PIPE,
-                stderr=self._errors,
-                bufsize=0,
-                start_new_session=True,
-            )
+            self._errors = tempfile.TemporaryFile()
+            self._process = _started(path, self._errors)
         except OSError as error:
-            self._errors.close()
             raise SessionError(f"{path} cannot be run: {error.strerror}") from error
         assert self._process.stdout is not None
         self._output = select.poll()

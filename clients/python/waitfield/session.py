@@ -159,7 +159,7 @@ class Session:
     ) -> Amplitude:
         """The amplitude of an output string. It is the same whichever colour is sliced.
 
-        The sum is worked in `steps` steps, and `progress(worked, all)` is called after each with numbers of slices.
+        The sum is worked in at most `steps` steps, and `progress(worked, all)` is told of the slices after each.
         """
         total = self._worked(self.amp(sliced, red, blue, green), steps, progress)
         assert isinstance(total, Amplitude)
@@ -198,7 +198,7 @@ class Session:
         """What is known of strings of the colours that are read: an amplitude where all are, else a readout."""
         read = read_colours(unread)
         if len(strings) != len(read):
-            raise ValueError(f"{len(read)} strings are needed, one for each of {', '.join(read)}")
+            raise ValueError(f"{len(strings)} strings, where each of {', '.join(read)} has one")
         if len(read) == 3:
             slices = self.amp("r", *strings)
         elif len(read) == 2:
