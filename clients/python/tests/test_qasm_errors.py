@@ -313,8 +313,7 @@ class TestRegisters(ErrorsCase):
         self.assert_each_told(cases, "there is no c[2]: 'c' has 2 classical bits")
 
     def test_an_index_of_a_single_qubit(self) -> None:
-        with self.assertRaisesRegex(QasmError, r"^circuit\.qasm:2: there is no r\[0\]: 'r' "):
-            from_qasm("qubit r;\nh r[0];", file=FILE)
+        self.assert_told("qubit r;\nh r[0]; // here\n", "there is no r[0]: 'r' is a single one")
 
     def test_registers_of_different_sizes(self) -> None:
         declared = "qreg r[2]; qreg b[3]; qreg g[1];\n"
@@ -559,6 +558,12 @@ class TestDefinitionsOfKnownGates(ErrorsCase):
         other = "gate other a, b, c { ccz a, b, c; }\n"
         self.assert_told(f"{other}gate ccz a, b, c {{ other a, b, c; }} {MARK}\n", "'ccz' is defined by itself")
 
+    def test_ccz_by_more_operations_than_are_looked_at(self) -> None:
+        pairs = 500 * "z a; z a; "
+        from_qasm(f"gate cz a, b {{ {pairs[:-10]} h b; cx a, b; h b; }}\nqubit r; h r; h r;")
+        text = f"gate cz a, b {{ {pairs} h b; cx a, b; h b; }} {MARK}\n"
+        self.assert_told(text, "'cz' is defined here by more than 1000 operations")
+
     def test_a_gate_in_the_definition_that_is_not_known(self) -> None:
         reason = "'tdg' is none of h, x, z, cx, cz, ccx, ccz, and is not defined before"
         self.assert_told("gate ccx a, b, c {\nh c; cx b, c;\ntdg c; // here\n}\n", reason)
@@ -785,7 +790,7 @@ class TestColours(ErrorsCase):
         self.assert_told(text, "a cz within a colour: r[0] is green, b[0] is green", colours)
 
     def test_seventeen_qubits_in_a_colour(self) -> None:
-        reason = "b[16] would be position 17 of blue, and positions go from 1 to 16"
+        reason = "b[16] is at none of the positions 1 to 16 of blue"
         self.assert_told("qreg r[2];\nqreg b[17]; // here\nh r; h b; h r; h b;\n", reason)
 
     def test_a_register_that_is_no_colour(self) -> None:
@@ -819,9 +824,9 @@ class TestMapping(ErrorsCase):
         self.assert_told(self.TEXT, "a and q[1] are both (b 1)", {**self.FITTING, "a": ("b", 1)})
 
     def test_a_position_out_of_range(self) -> None:
-        for position in [0, -1, 17, 10**30]:
-            with self.subTest(position=position):
-                reason = f"a would be position {position} of green, and positions go from 1 to 16"
+        reason = "a is at none of the positions 1 to 16 of green"
+        for position in [0, -1, 17, 10**5000]:
+            with self.subTest(digits=position.bit_length()):
                 self.assert_told(self.TEXT, reason, {**self.FITTING, "a": ("g", position)})
 
     def test_a_name_that_is_no_qubit(self) -> None:
@@ -925,7 +930,7 @@ class TestMappingInJson(unittest.TestCase):
 
 
 class TestFirstOfSeveral(ErrorsCase):
-    """Of several errors the first in the program is told."""
+    """Of several errors the first in the program is told, once every statement can be read."""
 
     def test_of_two_gates_that_are_not_known(self) -> None:
         reason = "'s' is none of h, x, z, cx, cz, ccx, ccz, and is not defined before"
@@ -955,12 +960,18 @@ class TestFirstOfSeveral(ErrorsCase):
         reason = "a cx across colours: r[0] is red, b[0] is blue"
         self.assert_told(around("cx r[0], b[0]; // here\nh g[0];"), reason)
 
+    def test_a_statement_that_cannot_be_read_before_a_hadamard_between(self) -> None:
+        reason = "'t' is none of h, x, z, cx, cz, ccx, ccz, and is not defined before"
+        self.assert_told(around("h g[0];\nt r[0]; // here"), reason)
+
     def test_a_hadamard_between_before_a_gate_across_colours(self) -> None:
         reason = "a Hadamard on g[0] between the layers, and no other closes a cz or ccz with it"
         self.assert_told(around("h g[0]; // here\ncx r[0], b[0];"), reason)
 
 
 class TestFiles(unittest.TestCase):
+    TOO_MANY = "more than 1000 files, or more than 64 inside each other"
+
     def setUp(self) -> None:
         folder = tempfile.TemporaryDirectory()
         self.addCleanup(folder.cleanup)
@@ -1077,7 +1088,15 @@ class TestFiles(unittest.TestCase):
         self.write("deep100.inc", "qreg r[1]; h r; h r;\n")
         with self.assertRaises(QasmError) as caught:
             read_qasm(self.path("deep0.inc"))
-        self.assertEqual(caught.exception.reason, TestSizes.TOO_MANY)
+        self.assertEqual(caught.exception.reason, self.TOO_MANY)
+
+    def test_files_that_double_at_each_level(self) -> None:
+        self.write("twice0.inc", "")
+        for number in range(1, 41):
+            self.write(f"twice{number}.inc", f'include "twice{number - 1}.inc";\n' * 2)
+        with self.assertRaises(QasmError) as caught:
+            read_qasm(self.path("twice40.inc"))
+        self.assertEqual(caught.exception.reason, self.TOO_MANY)
 
 
 class TestEveryCut(unittest.TestCase):

@@ -174,6 +174,14 @@ class FormsTest(SessionCase):
         every = [Ccz(i, j, k) for i in range(1, 17) for j in range(1, 17) for k in range(1, 17)]
         self.assertEqual(self.session.terms(), every)
 
+    def test_a_listing_of_all_terms_of_one_position(self) -> None:
+        red, blue, green = Spot("r", 1), Spot("b", 1), Spot("g", 1)
+        every: list[Gate] = [Ccz(1, 1, 1), Cz(red, blue), Cz(red, green), Cz(blue, green), Z(red), Z(blue), Z(green)]
+        self.session.circuit(1)
+        for gate in every:
+            self.session.layer([gate])
+        self.assertEqual(self.session.terms(), every)
+
     def test_load_gives_the_start_and_the_gates_in_place_of_those_held(self) -> None:
         self.one_ccz()
         qubits = {"r[0]": R1, "r[1]": R2}

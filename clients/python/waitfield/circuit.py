@@ -2,7 +2,7 @@
 
 from __future__ import annotations
 
-from dataclasses import dataclass
+from dataclasses import dataclass, field
 from typing import Mapping, Optional, Sequence
 
 from .errors import StringError
@@ -25,7 +25,7 @@ class Circuit:
     # The strings of red, blue and green before the first Hadamards.
     start: tuple[str, str, str]
     # Every qubit's name and spot, in the order in which they were declared.
-    qubits: Mapping[str, Spot]
+    qubits: Mapping[str, Spot] = field(hash=False)
     # What the digits of a measured string are, by classical bits; None for a bit into which nothing is measured.
     digits: tuple[Optional[Spot], ...]
     # The numbers of the gates, from 0, before which a barrier stands.

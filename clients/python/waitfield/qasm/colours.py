@@ -37,8 +37,8 @@ def spots(qubits: Mapping[str, Declared], colours: Optional[Colours]) -> dict[st
         if spot is None:
             raise declared.place.error(f"{name} has no colour in the mapping")
         if not 1 <= spot.position <= MOST_POSITIONS:
-            where = f"position {spot.position} of {COLOUR_NAMES[spot.colour]}"
-            raise declared.place.error(f"{name} would be {where}, and positions go from 1 to {MOST_POSITIONS}")
+            colour = COLOUR_NAMES[spot.colour]
+            raise declared.place.error(f"{name} is at none of the positions 1 to {MOST_POSITIONS} of {colour}")
         if spot in owners:
             raise declared.place.error(f"{name} and {owners[spot]} are both {spot}")
         owners[spot] = name

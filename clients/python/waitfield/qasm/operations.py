@@ -27,6 +27,10 @@ from .tokens import Place, Reader
 MOST_CALLS = 200_000
 DEEPEST = 64
 
+# Of a definition that has to be looked at, and of files that are included.
+MOST_LOOKED_AT = 1000
+MOST_FILES = 1000
+
 MOST_QUBITS = len(COLOURS) * MOST_POSITIONS
 
 # Classical bits are no part of a circuit; there may be some that nothing is measured into.
@@ -73,6 +77,7 @@ class _Expansion:
         # The known gate whose definition is being looked at.
         self._looked_at: Optional[str] = None
         self._calls = 0
+        self._files = 0
         # The files that are being read, each included by the one before it.
         self._including = [os.path.normpath(file)]
         for statement in statements(Reader.of_text(LIBRARY, "the library")):
@@ -104,7 +109,9 @@ class _Expansion:
     def _include(self, include: Include) -> None:
         if include.file in LIBRARY_FILES:
             return
-        self._count(include.place, len(self._including))
+        self._files += 1
+        if self._files > MOST_FILES or len(self._including) > DEEPEST:
+            raise include.place.error(f"more than {MOST_FILES} files, or more than {DEEPEST} inside each other")
         path = os.path.normpath(os.path.join(os.path.dirname(include.place.file), include.file))
         if path in self._including:
             raise include.place.error(f"'{include.file}' includes itself")
@@ -154,6 +161,8 @@ class _Expansion:
         for statement in body_statements(definition):
             self._expand(statement, dict(zip(qubits, qubits)), self._defined, definition.place, 0, found)
         self._looked_at = None
+        if len(found) > MOST_LOOKED_AT:
+            raise definition.place.error(f"'{name}' is defined here by more than {MOST_LOOKED_AT} operations")
         if not is_gate(known, qubits, found):
             raise something_else
 
@@ -171,7 +180,7 @@ class _Expansion:
 
     def _barrier(self, barrier: Barrier) -> None:
         named = [qubit for operand in barrier.operands for qubit in self._named(operand, quantum=True)]
-        self._add("barrier", tuple(named or self.program.qubits), barrier.place)
+        self._add("barrier", tuple(named), barrier.place)
 
     def _measure(self, measure: Measure) -> None:
         qubits = self._named(measure.qubit, quantum=True)
@@ -201,8 +210,10 @@ class _Expansion:
             raise operand.place.error(f"'{operand.name}' is no register of {what}")
         if operand.index is None:
             return _singles(register)
-        if register.size is None or operand.index >= register.size:
-            raise operand.place.error(f"there is no {operand}: '{operand.name}' has {register.size or 'no'} {what}")
+        if register.size is None:
+            raise operand.place.error(f"there is no {operand}: '{operand.name}' is a single one")
+        if operand.index >= register.size:
+            raise operand.place.error(f"there is no {operand}: '{operand.name}' has {register.size} {what}")
         return [str(operand)]
 
     def _expand(
@@ -219,7 +230,7 @@ class _Expansion:
         assert isinstance(statement, (Call, Barrier))
         qubits = tuple(self._actual(operand, actual) for operand in statement.operands)
         if isinstance(statement, Barrier):
-            found.append(Operation("barrier", qubits or tuple(actual.values()), place))
+            found.append(Operation("barrier", qubits, place))
             return
         if len(set(qubits)) != len(qubits):
             raise place.error(f"'{statement.name}' has one qubit twice")
@@ -239,7 +250,7 @@ class _Expansion:
             self._expand(each, inner, self._numbers[name], place, depth + 1, found)
 
     def _count(self, place: Place, depth: int) -> None:
-        """Stops what would not end in any useful time: definitions and files that double at each level."""
+        """Stops what would not end in any useful time: definitions that double at each level."""
         self._calls += 1
         if self._calls > MOST_CALLS or depth > DEEPEST:
             raise place.error(f"more than {MOST_CALLS} calls of gates, or more than {DEEPEST} inside each other")

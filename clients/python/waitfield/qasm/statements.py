@@ -60,7 +60,7 @@ class Call:
 
 @dataclass(frozen=True)
 class Barrier:
-    """Without operands it is on all qubits."""
+    """Without operands it is on all qubits. Only its place among the gates counts."""
 
     place: Place
     operands: tuple[Operand, ...]
