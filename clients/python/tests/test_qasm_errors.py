@@ -558,10 +558,10 @@ class TestDefinitionsOfKnownGates(ErrorsCase):
         other = "gate other a, b, c { ccz a, b, c; }\n"
         self.assert_told(f"{other}gate ccz a, b, c {{ other a, b, c; }} {MARK}\n", "'ccz' is defined by itself")
 
-    def test_ccz_by_more_operations_than_are_looked_at(self) -> None:
-        pairs = 500 * "z a; z a; "
-        from_qasm(f"gate cz a, b {{ {pairs[:-10]} h b; cx a, b; h b; }}\nqubit r; h r; h r;")
-        text = f"gate cz a, b {{ {pairs} h b; cx a, b; h b; }} {MARK}\n"
+    def test_cz_by_more_operations_than_are_looked_at(self) -> None:
+        nothing, cz = "z a; z a; ", "h b; cx a, b; h b;"
+        from_qasm(f"gate cz a, b {{ {498 * nothing} {cz} }}\nqubit r; h r; h r;")
+        text = f"gate cz a, b {{ {499 * nothing} {cz} }} {MARK}\n"
         self.assert_told(text, "'cz' is defined here by more than 1000 operations")
 
     def test_a_gate_in_the_definition_that_is_not_known(self) -> None:
