@@ -7,7 +7,7 @@ import os
 import pathlib
 import tempfile
 import unittest
-from typing import Optional
+from typing import Optional, Union
 
 from waitfield import Ccz, Circuit, Cnot, Cz, Spot, StringError, Z, from_qasm, read_mapping, read_qasm
 
@@ -748,7 +748,8 @@ class TestStringsByColour(unittest.TestCase):
                 self.assertEqual(str(caught.exception), f"{string!r} is no bit string")
 
     def test_too_many_or_too_few_strings(self) -> None:
-        for strings in [["110", "01"], ["110", "01", "1", "0"], []]:
+        cases: list[list[str]] = [["110", "01"], ["110", "01", "1", "0"], []]
+        for strings in cases:
             with self.subTest(strings=strings), self.assertRaises(StringError):
                 self.circuit.strings_by_colour(strings)
 
@@ -768,7 +769,7 @@ class TestMapping(unittest.TestCase):
         self.assertEqual(from_qasm(self.TEXT, colours=by_number), from_qasm(self.TEXT, colours=self.COLOURS))
 
     def test_by_names_and_numbers(self) -> None:
-        mixed = {3: ("b", 1), "q[1]": ("r", 1), 0: ("b", 2), "q[2]": ("g", 1)}
+        mixed: dict[Union[str, int], tuple[str, int]] = {3: ("b", 1), "q[1]": ("r", 1), 0: ("b", 2), "q[2]": ("g", 1)}
         self.assertEqual(from_qasm(self.TEXT, colours=mixed), from_qasm(self.TEXT, colours=self.COLOURS))
 
     def test_with_lists_as_json_has_them(self) -> None:

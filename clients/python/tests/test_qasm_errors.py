@@ -10,10 +10,10 @@ import io
 import os
 import tempfile
 import unittest
-from typing import Callable, Iterable, Mapping, Optional, Union
+from typing import Any, Callable, Iterable, Mapping, Optional, Union
 from unittest import mock
 
-from waitfield import Circuit, ColoursError, QasmError, from_qasm, read_mapping, read_qasm
+from waitfield import Circuit, Colours, ColoursError, QasmError, from_qasm, read_mapping, read_qasm
 
 FILE = "circuit.qasm"
 MARK = "// here"
@@ -46,7 +46,7 @@ def around(middle: str) -> str:
 
 
 class ErrorsCase(unittest.TestCase):
-    def assert_told(self, text: str, reason: str, colours: Optional[Mapping] = None) -> None:
+    def assert_told(self, text: str, reason: str, colours: Optional[Colours] = None) -> None:
         """The text is an error at its marked line, for exactly this reason."""
         with self.assertRaises(QasmError) as caught:
             from_qasm(text, colours=colours, file=FILE)
@@ -804,7 +804,7 @@ class TestMapping(ErrorsCase):
     TEXT = "qreg q[2];\nqubit a; // here\nh q; h a; h q; h a;\n"
     FITTING = {"q[0]": ("r", 1), "q[1]": ("b", 1), "a": ("g", 1)}
 
-    def assert_refused(self, colours: Mapping, reason: str) -> None:
+    def assert_refused(self, colours: Mapping[Any, Any], reason: str) -> None:
         with self.assertRaises(ColoursError) as caught:
             from_qasm(self.TEXT, colours=colours)
         self.assertEqual(str(caught.exception), reason)
@@ -818,7 +818,8 @@ class TestMapping(ErrorsCase):
 
     def test_an_empty_mapping(self) -> None:
         text = "\nqreg r[1]; // here\nh r; h r;\n"
-        self.assert_told(text, "r[0] has no colour in the mapping", {})
+        nothing: dict[str, tuple[str, int]] = {}
+        self.assert_told(text, "r[0] has no colour in the mapping", nothing)
 
     def test_a_spot_that_two_qubits_have(self) -> None:
         self.assert_told(self.TEXT, "a and q[1] are both (b 1)", {**self.FITTING, "a": ("b", 1)})

@@ -13,7 +13,7 @@ from dataclasses import dataclass
 from random import Random
 from typing import Callable, Dict, Iterable, List, Optional, Sequence, Tuple
 
-from waitfield import Circuit, Session, compare, from_qasm
+from waitfield import Circuit, Colours, Session, compare, from_qasm
 from waitfield.command import main
 from waitfield.program import find_program
 
@@ -258,11 +258,13 @@ class Drawn:
     # The qubit that is measured into each classical bit.
     bits: list[Optional[str]]
 
-    def colours(self, random: Random) -> Optional[dict]:
+    def colours(self, random: Random) -> Optional[Colours]:
         """The mapping, by names or by numbers, or none."""
         if not self.layout.is_mapped:
             return None
-        return self.layout.spots if random.random() < 0.5 else dict(enumerate(self.layout.spots.values()))
+        if random.random() < 0.5:
+            return self.layout.spots
+        return dict(enumerate(self.layout.spots.values()))
 
 
 class Program:

@@ -14,7 +14,9 @@ from .operations import Declared
 _NUMBER = re.compile("0|[1-9][0-9]?")
 
 # A qubit by its name or by its number, from 0 on, and its colour and position.
-Colours = Mapping[Union[str, int], Tuple[str, int]]
+Colours = Union[
+    Mapping[str, Tuple[str, int]], Mapping[int, Tuple[str, int]], Mapping[Union[str, int], Tuple[str, int]]
+]
 
 
 def read_mapping(text: str) -> Colours:
@@ -24,7 +26,10 @@ def read_mapping(text: str) -> Colours:
         found = json_object(text)
     except ValueError as error:
         raise ColoursError(f"the mapping is not read as a JSON object: {error}") from error
-    return {int(key) if _NUMBER.fullmatch(key) else key: _spot(key, value) for key, value in found.items()}
+    mapping: dict[Union[str, int], Tuple[str, int]] = {}
+    for key, value in found.items():
+        mapping[int(key) if _NUMBER.fullmatch(key) else key] = _spot(key, value)
+    return mapping
 
 
 def spots(qubits: Mapping[str, Declared], colours: Optional[Colours]) -> dict[str, Spot]:
