@@ -252,7 +252,7 @@ class TestIncludes(FilesCase):
     PAIR = "gate pair a, b { cz a, b; }"
 
     def test_the_standard_libraries(self) -> None:
-        for include in ['"qelib1.inc"', '"stdgates.inc"', '"stdgates.qasm"', "'qelib1.inc'"]:
+        for include in ['"qelib1.inc"', '"stdgates.inc"', "'qelib1.inc'"]:
             with self.subTest(include=include):
                 self.assertEqual(from_qasm(f"include {include}; {self.PAIR} {self.CALL}").lines, self.LINES)
 

@@ -16,7 +16,7 @@ CONTROLLED = {"x": "cx", "cx": "ccx", "z": "cz", "cz": "ccz"}
 
 # What the standard libraries define by known gates alone.
 LIBRARY = "gate swap a, b { cx a, b; cx b, a; cx a, b; }"
-LIBRARY_FILES = ("qelib1.inc", "stdgates.inc", "stdgates.qasm")
+LIBRARY_FILES = ("qelib1.inc", "stdgates.inc")
 
 
 @dataclass(frozen=True)
