@@ -1,6 +1,7 @@
 // One CCZ on three qubits.
 OPENQASM 3.0;
 include "stdgates.inc";
+gate ccz a, b, c { h c; ccx a, b, c; h c; }
 
 qubit[1] r;
 qubit[1] b;
