@@ -44,18 +44,26 @@ def find_program(path: Union[str, "os.PathLike[str]", None] = None) -> str:
     raise SessionError(f"the program session is not found: give its path, set {VARIABLE}, or build it by 'rt check'")
 
 
-def _started(path: str, errors: IO[bytes]) -> subprocess.Popen[bytes]:
-    """The program at a path, which is not looked for elsewhere. In a session of its own an interrupt from the keyboard
-    reaches Python alone."""
-    return subprocess.Popen(
-        [path],
-        executable=os.path.abspath(path),
-        stdin=subprocess.PIPE,
-        stdout=subprocess.PIPE,
-        stderr=errors,
-        bufsize=0,
-        start_new_session=True,
-    )
+def _started(path: str) -> tuple[subprocess.Popen[bytes], IO[bytes]]:
+    """The program at a path, which is not looked for elsewhere, and what it writes to standard error.
+
+    In a session of its own an interrupt from the keyboard reaches Python alone.
+    """
+    errors = tempfile.TemporaryFile()
+    try:
+        process = subprocess.Popen(
+            [path],
+            executable=os.path.abspath(path),
+            stdin=subprocess.PIPE,
+            stdout=subprocess.PIPE,
+            stderr=errors,
+            bufsize=0,
+            start_new_session=True,
+        )
+    except BaseException:
+        errors.close()
+        raise
+    return process, errors
 
 
 def _finish(process: subprocess.Popen[bytes], errors: IO[bytes]) -> None:
@@ -102,8 +110,7 @@ class Program:
         self._unread = b""
         self._over: Optional[str] = None
         try:
-            self._errors = tempfile.TemporaryFile()
-            self._process = _started(path, self._errors)
+            self._process, self._errors = _started(path)
         except OSError as error:
             raise SessionError(f"{path} cannot be run: {error.strerror}") from error
         assert self._process.stdout is not None
