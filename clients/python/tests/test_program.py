@@ -325,8 +325,11 @@ class NonsenseTest(FakeCase):
                 self.assert_nonsense(session.terms, "(terms)", listed)
 
     def test_a_listing_has_no_more_terms_than_there_are(self) -> None:
-        session = self.begun("(terms 8)")
-        self.assert_nonsense(session.terms, "(terms)", "(terms 8)")
+        for m, too_many in [(1, "(terms 8)"), (2, "(terms 27)"), (16, "(terms 4913)")]:
+            with self.subTest(m=m):
+                session = self.session(answers("(ok)", too_many))
+                session.circuit(m)
+                self.assert_nonsense(session.terms, "(terms)", too_many)
 
     def test_an_empty_line_is_no_answer(self) -> None:
         session = self.session(answers(""))

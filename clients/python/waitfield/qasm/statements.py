@@ -55,7 +55,7 @@ class Call:
     name: str
     parameters: int
     operands: tuple[Operand, ...]
-    controls: int = 0
+    controls: int
 
 
 @dataclass(frozen=True)
