@@ -685,6 +685,13 @@ class BarTest(CommandCase):
                 drawn(done, 1000)
         self.assertEqual(terminal.getvalue(), bar(50) + bar(100) + WIPED)
 
+    def test_the_bar_is_shown_at_once(self) -> None:
+        terminal = Terminal()
+        with Bar(terminal) as drawn:
+            drawn(1, 4)
+            self.assertEqual(terminal.shown, bar(25))
+        self.assertEqual(terminal.shown, bar(25) + WIPED)
+
     def test_no_bar_where_nothing_is_summed(self) -> None:
         self.assertEqual(self.run_on_terminal("convert", self.one_ccz)[2], "")
 
@@ -693,10 +700,15 @@ class BarTest(CommandCase):
 
 
 class Terminal(io.StringIO):
-    """A terminal that keeps what it is told."""
+    """A terminal that shows what it is told once it is flushed."""
+
+    shown = ""
 
     def isatty(self) -> bool:
         return True
+
+    def flush(self) -> None:
+        self.shown = self.getvalue()
 
 
 def read_all(terminal: int) -> str:

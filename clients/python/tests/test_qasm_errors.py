@@ -270,6 +270,9 @@ class TestRegisters(ErrorsCase):
         cases = ["creg c[999999999];", "bit[4097] c;", "creg c[4096]; bit d;"]
         self.assert_each_told(cases, "more than 4096 classical bits", below)
 
+    def test_as_many_bits_as_there_may_be(self) -> None:
+        self.assertEqual(from_qasm("creg c[4096]; qreg r[16]; h r; h r;").m, 16)
+
     def test_no_qubits(self) -> None:
         cases = ["", "OPENQASM 2.0;", "creg c[2];", "gate pair a, b { }"]
         self.assert_each_told(cases, "the circuit has no qubits", lambda line: f"\n\n{line}")

@@ -533,6 +533,16 @@ class AskTest(SessionCase):
             self.assertEqual(str(raised.exception), f"at most two of r, b, g may be unread, not {unread!r}")
 
 
+class GatesTest(unittest.TestCase):
+    """Gates are values, and may be in sets."""
+
+    def test_two_of_one_kind_on_the_same_positions_are_one(self) -> None:
+        def gates() -> list[Gate]:
+            return [Ccz(1, 2, 3), Cz(Spot("r", 1), Spot("g", 2)), Cnot("b", 1, 2), Z(Spot("g", 3))]
+
+        self.assertEqual(len({*gates(), *gates()}), 4)
+
+
 class ValuesTest(unittest.TestCase):
     """What an answer means, exactly (manual, section 12)."""
 
