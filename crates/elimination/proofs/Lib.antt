@@ -1,11 +1,8 @@
-pub mod Maps
-pub mod Lanes
-pub mod Place
-pub mod Pivots
 pub mod Systems
 pub mod Solving
-pub mod Equations
 pub mod Columns
-pub mod Narrow
-pub mod Reduced
-pub mod SignedSum
+pub mod OneSystem
+pub mod Tabled
+pub mod Writes
+pub mod Turns
+pub mod Sides

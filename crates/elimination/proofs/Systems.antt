@@ -1,10 +1,10 @@
 -- Systems of equations over bits, and the signed sum over their solutions: what one elimination step does to it.
 use mathlib.Core.Path.{_≡_, refl, sym, _∙_, ap, ap₂}
 use mathlib.Core.Bool.{Bool, true, false, false≢true, not, cond, _&&_, and-false, and-true}
-use mathlib.Core.List.{List, [], _∷_, _++_}
-use Prim.Native.Nat.{ℕ, zero, suc, _^_, _≤_, _<_}
+use mathlib.Core.List.{List, [], _∷_}
+use Prim.Native.Nat.{ℕ, suc, _^_, _≤_, _<_}
 use native.Mathlib.Omega.{arith}
-use lib.ListN.{length, replicate}
+use lib.ListN.{length}
 use lib.IntN.{ℤ, pos, _+ℤ_, _*ℤ_, negℤ, +ℤ-idr, zero-*ℤ, *ℤ-zero, *ℤ-comm}
 use Rattle.gf2.specs.Strings.{BitString, _⊕_, _⊞_, dot, bit, flip, isZero}
 use Rattle.gf2.specs.Sums.{sum, sgn}
@@ -12,7 +12,7 @@ use Rattle.gf2.proofs.Integers.{ring, neg-mulℤ, *ℤ-left-comm, *ℤ-one′}
 use Rattle.gf2.proofs.Bits.{⊕-left-comm, ⊕-self, ⊕-false, false-⊕, xor-ac, sgn-⊕, sgn-not}
 use Rattle.gf2.proofs.Strings.{dot-⊞, bit-⊞, dot-flip, dot-zero}
 use Rattle.gf2.proofs.Sums.{sum-ext, sum-add, sum-mul, sum-swap, sum-odd}
-use Rattle.gf2.proofs.Parseval.{sum-of-signs, double-pow}
+use Rattle.gf2.proofs.Parseval.{sum-of-signs}
 
 -- An equation over bits: a row and its right side.
 pub record Equation : Type 0 where
@@ -217,23 +217,3 @@ systemSum-step m j p rs b h e =
     at-v : (v : BitString) (c : Bool) → off p v ≡ c → sgn (dot b v) *ℤ ((pos 1 +ℤ sgn (off p v)) *ℤ allow (offs rs v)) ≡ s *ℤ ((pos 1 +ℤ sgn (off p v)) *ℤ G v)
     at-v v true q = vanish (off p v) q (sgn (dot b v)) (allow (offs rs v)) s (G v)
     at-v v false q = ap₂ (λ x (y : BitString). x *ℤ ((pos 1 +ℤ sgn (off p v)) *ℤ allow y)) (sgn-clearedString j p b v q) (sym (offs-clearedAll j p rs v q)) ∙ shuffle s (sgn (dot (clearedString j p b) v)) (pos 1 +ℤ sgn (off p v)) (allow (offs (clearedAll j p rs) v))
-
-off-blank : (p : Equation) (v : BitString) → isZero (p .row) ≡ true → p .rhs ≡ false → off p v ≡ false
-off-blank p v h e = off-zero p v (dot-zero (p .row) v h) ∙ e
-
-allow-blanks : (p : Equation) (v : BitString) → off p v ≡ false → (n : ℕ) (rs : List Equation) → allow (offs (rs ++ replicate n p) v) ≡ pos (2 ^ n) *ℤ allow (offs rs v)
-unfolding offs allow
-allow-blanks p v h zero [] = refl
-allow-blanks p v h (suc n) [] = ap₂ (λ (c : Bool) x. (pos 1 +ℤ sgn c) *ℤ x) h (allow-blanks p v h n []) ∙ one-sgn false (pos (2 ^ n) *ℤ pos 1) ∙ sym (double-pow n (pos 1))
-allow-blanks p v h n (r ∷ rs) = ap (λ x. (pos 1 +ℤ sgn (off r v)) *ℤ x) (allow-blanks p v h n rs) ∙ *ℤ-left-comm (pos 1 +ℤ sgn (off r v)) (pos (2 ^ n)) (allow (offs rs v))
-
--- n equations at the end that say nothing: each doubles the sum
-pub systemSum-blanks : (m : ℕ) (p : Equation) (n : ℕ) (rs : List Equation) (b : BitString) → isZero (p .row) ≡ true → p .rhs ≡ false
-    → systemSum m (rs ++ replicate n p) b ≡ pos (2 ^ n) *ℤ systemSum m rs b
-unfolding systemSum
-systemSum-blanks m p n rs b h e =
-    sum-ext m (λ v. sgn (dot b v) *ℤ allow (offs (rs ++ replicate n p) v)) (λ v. pos (2 ^ n) *ℤ (sgn (dot b v) *ℤ allow (offs rs v))) at-v
-    ∙ sum-mul m (pos (2 ^ n)) (λ v. sgn (dot b v) *ℤ allow (offs rs v))
-  where
-    at-v : (v : BitString) → sgn (dot b v) *ℤ allow (offs (rs ++ replicate n p) v) ≡ pos (2 ^ n) *ℤ (sgn (dot b v) *ℤ allow (offs rs v))
-    at-v v = ap (λ x. sgn (dot b v) *ℤ x) (allow-blanks p v (off-blank p v h e) n rs) ∙ *ℤ-left-comm (sgn (dot b v)) (pos (2 ^ n)) (allow (offs rs v))

@@ -1,13 +1,11 @@
--- A string is zero where each of its bits is, and the string of a word where the word's digits are.
-use mathlib.Core.Path.{_≡_, refl, sym, _∙_, ap₂}
+-- A string is zero where each of its bits is.
+use mathlib.Core.Path.{_≡_, refl, ap₂}
 use mathlib.Core.Bool.{true, false, false≢true, not, _&&_}
 use mathlib.Core.List.{[], _∷_}
 use Prim.Native.Nat.{ℕ, zero, suc, _<_}
 use native.Mathlib.Omega.{arith}
 use lib.ListN.{length}
 use Rattle.gf2.specs.Strings.{BitString, bit, zeros, isZero}
-use Rattle.gf2.specs.Words.{bitAt, lowFirst}
-use Rattle.gf2.proofs.LowFirst.{length-lowFirst, bit-lowFirst}
 
 pub zeros-zero : (m : ℕ) → isZero (zeros m) ≡ true
 unfolding isZero zeros
@@ -25,15 +23,3 @@ bit-of-zero [] k h = refl
 bit-of-zero (true ∷ b) k h = absurd (false≢true h)
 bit-of-zero (false ∷ b) zero h = refl
 bit-of-zero (false ∷ b) (suc k) h = bit-of-zero b k h
-
-pub zero-of-digits : (m x : ℕ) → ((k : ℕ) → k < m → bitAt x k ≡ false) → isZero (lowFirst m x) ≡ true
-unfolding bitAt
-zero-of-digits m x h =
-    zero-of-bits (lowFirst m x) (λ k l. bit-lowFirst m k x (within k l) ∙ h k (within k l))
-  where
-    within : (k : ℕ) → k < length (lowFirst m x) → k < m
-    within k l = omega (arith, length-lowFirst m x)
-
-pub digit-of-zero : (m x k : ℕ) → isZero (lowFirst m x) ≡ true → k < m → bitAt x k ≡ false
-unfolding bitAt
-digit-of-zero m x k h l = sym (bit-lowFirst m k x l) ∙ bit-of-zero (lowFirst m x) k h

@@ -14,19 +14,17 @@ use borrow.Author.Tests.{eq-eqb}
 use Rattle.gf2.specs.Strings.{BitString, _⊞_, dot, isZero}
 use Rattle.gf2.specs.Sums.{sum, parity, sgn}
 use Rattle.gf2.proofs.Integers.{one-*ℤ}
-use Rattle.gf2.proofs.Bits.{and-both}
 use Rattle.gf2.proofs.Strings.{dot-zero}
 use Rattle.gf2.proofs.Sums.{sum-ext, sum-mul}
 use Rattle.gf2.proofs.Parseval.{walsh}
 use Rattle.gf2.proofs.Parities.{parity-false}
 use Rattle.circuit.specs.declared.Colour.{Colour}
-use Rattle.circuit.specs.Colours.{sameColour, the, first, second, join}
+use Rattle.circuit.specs.Colours.{sameColour, first, second, join}
 use Rattle.circuit.specs.Sum.{at}
 use Rattle.circuit.specs.Polynomial.{Polynomial}
 use Rattle.circuit.specs.Holding.{holding}
 use Rattle.circuit.proofs.Three.{the-join}
 use Rattle.circuit.proofs.Value.{factor, parity₂-ext}
-use Rattle.circuit.proofs.PolynomialTerms.{HasTerms}
 use Rattle.slices.specs.Slices.{gamma, innerSum}
 use Rattle.slices.specs.Rank.{rank}
 use Rattle.slices.specs.Totals.{isNought}
@@ -38,11 +36,6 @@ use Rattle.slices.proofs.Readout.{nought-signed}
 use Rattle.slices.proofs.OneColour.{leftOver-is, colourSum, colourSum-is, atSetting, at-setting, oneShare-is, inner-by-colour, joined-lengths}
 
 -- ---- the terms that hold a position of C
-
--- Where the polynomial has terms of a circuit of m positions only, so has this part of it.
-pub holding-terms : (m : ℕ) (C : Colour) (f : Polynomial) → HasTerms m f → HasTerms m (holding C f)
-unfolding holding
-holding-terms m C f t h e = t h (and-both (f h) (not (eqb (the C h) 0)) e .0)
 
 -- what multiplies position i of C: as in the whole polynomial, but nothing for the constant
 factor-holding : (m : ℕ) (f : Polynomial) (C : Colour) (u v : BitString) (i : ℕ) → factor m (holding C f) C u v (suc i) ≡ factor m f C u v (suc i)

@@ -2,7 +2,7 @@
 use mathlib.Core.Path.{_≡_, refl, sym, _∙_, ap, ap₂}
 use mathlib.Core.Bool.{Bool, false, _&&_}
 use mathlib.Core.List.{List, [], _∷_}
-use Prim.Native.Nat.{ℕ, zero, suc, _≤_}
+use Prim.Native.Nat.{ℕ, zero, suc, _≤_, _<_}
 use native.Mathlib.Omega.{arith}
 use lib.ListN.{length}
 use lib.IntN.{ℤ, _*ℤ_}
@@ -31,28 +31,31 @@ dots-join Red s z u v = refl
 dots-join Blue s z u v = ⊕-left-comm (dot (s .red) u) (dot (s .blue) z) (dot (s .green) v)
 dots-join Green s z u v = sym (⊕-assoc (dot (s .red) u) (dot (s .blue) v) (dot (s .green) z)) ∙ ⊕-comm (dot (s .red) u ⊕ dot (s .blue) v) (dot (s .green) z)
 
+-- A slice's part of the signed sum, by the signs at all strings of the other two colours.
+pub part-by-signs : (C : Colour) (m : ℕ) (f : Polynomial) (s : Basis) (z : BitString)
+    → sum m (λ u. sum m (λ w. sgn (value m f (join C z u w) ⊕ dots s (join C z u w)))) ≡ signedPart m f C s z
+unfolding innerSum
+part-by-signs C m f s z =
+    sum-ext m (λ u. sum m (λ w. sgn (value m f (join C z u w) ⊕ dots s (join C z u w)))) (λ u. sgn (dot (the C s) z) *ℤ sum m (term u))
+    (λ u. sum-ext m (λ w. sgn (value m f (join C z u w) ⊕ dots s (join C z u w))) (λ w. sgn (dot (the C s) z) *ℤ term u w) (at-w u)
+    ∙ sum-mul m (sgn (dot (the C s) z)) (term u))
+    ∙ sum-mul m (sgn (dot (the C s) z)) (λ u. sum m (term u))
+  where
+    term : BitString → BitString → ℤ
+    term u w = sgn (value m f (join C z u w) ⊕ (dot (first C s) u ⊕ dot (second C s) w))
+
+    at-w : (u w : BitString) → sgn (value m f (join C z u w) ⊕ dots s (join C z u w)) ≡ sgn (dot (the C s) z) *ℤ term u w
+    at-w u w =
+        ap (λ y. sgn (value m f (join C z u w) ⊕ y)) (dots-join C s z u w)
+        ∙ ap sgn (⊕-left-comm (value m f (join C z u w)) (dot (the C s) z) (dot (first C s) u ⊕ dot (second C s) w))
+        ∙ sgn-⊕ (dot (the C s) z) (value m f (join C z u w) ⊕ (dot (first C s) u ⊕ dot (second C s) w))
+
 -- The sum of a polynomial's signs, with an output string s, by the slices of colour C, as strings.
 pub phaseSum-by-slices : (C : Colour) (m : ℕ) (f : Polynomial) (s : Basis) → phaseSum m f s ≡ sum m (λ z. signedPart m f C s z)
-unfolding phaseSum innerSum
+unfolding phaseSum
 phaseSum-by-slices C m f s =
-    sumAll-lead C m (λ x. sgn (phase x ⊕ dots s x))
-    ∙ sum-ext m (λ z. sum m (λ u. sum m (λ w. sgn (phase (join C z u w) ⊕ dots s (join C z u w))))) (λ z. sgn (dot (the C s) z) *ℤ sum m (λ u. sum m (λ w. term z u w))) at-z
-  where
-    phase : Basis → Bool
-    phase = value m f
-
-    term : BitString → BitString → BitString → ℤ
-    term z u w = sgn (phase (join C z u w) ⊕ (dot (first C s) u ⊕ dot (second C s) w))
-
-    at-w : (z u w : BitString) → sgn (phase (join C z u w) ⊕ dots s (join C z u w)) ≡ sgn (dot (the C s) z) *ℤ term z u w
-    at-w z u w = ap (λ y. sgn (phase (join C z u w) ⊕ y)) (dots-join C s z u w)
-        ∙ ap sgn (⊕-left-comm (phase (join C z u w)) (dot (the C s) z) (dot (first C s) u ⊕ dot (second C s) w))
-        ∙ sgn-⊕ (dot (the C s) z) (phase (join C z u w) ⊕ (dot (first C s) u ⊕ dot (second C s) w))
-
-    at-z : (z : BitString) → sum m (λ u. sum m (λ w. sgn (phase (join C z u w) ⊕ dots s (join C z u w)))) ≡ sgn (dot (the C s) z) *ℤ sum m (λ u. sum m (λ w. term z u w))
-    at-z z = sum-ext m (λ u. sum m (λ w. sgn (phase (join C z u w) ⊕ dots s (join C z u w)))) (λ u. sgn (dot (the C s) z) *ℤ sum m (λ w. term z u w))
-        (λ u. sum-ext m (λ w. sgn (phase (join C z u w) ⊕ dots s (join C z u w))) (λ w. sgn (dot (the C s) z) *ℤ term z u w) (at-w z u) ∙ sum-mul m (sgn (dot (the C s) z)) (λ w. term z u w))
-        ∙ sum-mul m (sgn (dot (the C s) z)) (λ u. sum m (λ w. term z u w))
+    sumAll-lead C m (λ x. sgn (value m f x ⊕ dots s x))
+    ∙ sum-ext m (λ z. sum m (λ u. sum m (λ w. sgn (value m f (join C z u w) ⊕ dots s (join C z u w))))) (signedPart m f C s) (part-by-signs C m f s)
 
 pub length-along : {A : Type 0} (n : ℕ) (f : ℕ → A) → length (along n f) ≡ n
 unfolding along
@@ -76,24 +79,27 @@ pub positions-dot : (m : ℕ) (u : BitString) (a : ℕ → Bool) → length u �
 unfolding at bit
 positions-dot m u a h = parity-head m (λ i. at i u && a i) ∙ ap (λ w. a 0 ⊕ w) (bits-dot m u a h)
 
-along-⊞ : (n : ℕ) (a b : ℕ → Bool) → along n (λ i. a i ⊕ b i) ≡ along n a ⊞ along n b
+pub along-⊞ : (n : ℕ) (a b : ℕ → Bool) → along n (λ i. a i ⊕ b i) ≡ along n a ⊞ along n b
 unfolding along _⊞_
 along-⊞ zero a b = refl
 along-⊞ (suc n) a b = ap (λ (w : BitString). (a 1 ⊕ b 1) ∷ w) (along-⊞ n (λ i. a (suc i)) (λ i. b (suc i)))
 
-times-along : (n : ℕ) (r : ℕ → BitString) (v : BitString) → times (along n r) v ≡ along n (λ i. dot (r i) v)
+pub times-along : (n : ℕ) (r : ℕ → BitString) (v : BitString) → times (along n r) v ≡ along n (λ i. dot (r i) v)
 unfolding along times
 times-along zero r v = refl
 times-along (suc n) r v = ap (λ (w : BitString). dot (r 1) v ∷ w) (times-along n (λ i. r (suc i)) v)
 
 -- two lists are the same where their entries at the positions are, whatever there is at index 0
-pub along-ext : {A : Type 0} (n : ℕ) (a b : ℕ → A) → ((i : ℕ) → a (suc i) ≡ b (suc i)) → along n a ≡ along n b
+pub along-cong : {A : Type 0} (n : ℕ) (a b : ℕ → A) → ((i : ℕ) → i < n → a (suc i) ≡ b (suc i)) → along n a ≡ along n b
 unfolding along
-along-ext zero a b h = refl
-along-ext (suc n) a b h = ap₂ _∷_ (h 0) (along-ext n (λ i. a (suc i)) (λ i. b (suc i)) (λ i. h (suc i)))
+along-cong zero a b h = refl
+along-cong (suc n) a b h = ap₂ _∷_ (h 0 (omega arith)) (along-cong n (λ i. a (suc i)) (λ i. b (suc i)) (λ i l. h (suc i) (omega arith)))
+
+pub along-ext : {A : Type 0} (n : ℕ) (a b : ℕ → A) → ((i : ℕ) → a (suc i) ≡ b (suc i)) → along n a ≡ along n b
+along-ext n a b h = along-cong n a b (λ i l. h i)
 
 -- the value by the entries
-value-by-coefficients : (C : Colour) (m : ℕ) (f : Polynomial) (z u v : BitString) → value m f (join C z u v) ≡ parity (suc m) (λ i. at i u && parity (suc m) (λ j. at j v && coefficient m f C z i j))
+pub value-by-coefficients : (C : Colour) (m : ℕ) (f : Polynomial) (z u v : BitString) → value m f (join C z u v) ≡ parity (suc m) (λ i. at i u && parity (suc m) (λ j. at j v && coefficient m f C z i j))
 unfolding factor coefficient
 value-by-coefficients C m f z u v = value-join C m f z u v
     ∙ parity-ext n (λ k. at k z && parity n (λ i. parity n (λ j. (at i u && at j v) && f (join C k i j)))) (λ k. parity n (λ i. parity n (λ j. cell i j k))) at-k
