@@ -14,7 +14,7 @@ use Rattle.circuit.specs.Colours.{sameColour, the, first, second, join}
 use Rattle.circuit.specs.Sum.{Basis}
 use Rattle.circuit.specs.Polynomial.{Term, Polynomial}
 use Rattle.circuit.specs.Holding.{holding}
-use Rattle.tables.specs.Packing.{added, withOutput}
+use Rattle.tables.specs.Table.{added, withOutput}
 
 -- The string of C itself stays: its bits stand at the terms that hold a position of C alone.
 own-string : (C : Colour) (p : BitString) (f : Polynomial) → holding C (added C p f) ≡ added C p (holding C f)

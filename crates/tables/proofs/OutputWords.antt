@@ -21,7 +21,7 @@ use Rattle.circuit.specs.Colours.{the, first, second, join}
 use Rattle.circuit.specs.Polynomial.{Term, Polynomial, term, sameTerm, toggled}
 use Rattle.polynomial.specs.Words.{wordsOf}
 use Rattle.polynomial.proofs.PolynomialWords.{length-words, word-at, words-unique, toggled-words}
-use Rattle.tables.specs.Packing.{added}
+use Rattle.tables.specs.Table.{added}
 
 -- ---- digits of a string
 

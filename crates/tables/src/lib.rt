@@ -1,4 +1,4 @@
-// The polynomial with an output string, packed into the table that the slices of a sum are read from.
-pub mod output;
+// The polynomial with an output string, as the table that the slices of a sum are read from.
+pub mod outputs;
 pub mod table;
 pub mod terms;

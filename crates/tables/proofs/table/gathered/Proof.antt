@@ -20,39 +20,12 @@ loop-holds : tie.Need-loop-holds Inv-loop μ-loop
 unfolding wordOf
 loop-holds c = (omega arith, refl)
 
-add-bits : tie.Need-add-bits Inv-loop μ-loop
-add-bits c = search needs
-
-mul-bits : tie.Need-mul-bits Inv-loop μ-loop
-mul-bits c = search needs
-
-element-copy-out-bits : tie.Need-element-copy-out-bits Inv-loop μ-loop
-element-copy-out-bits c = search needs
-
-cast-bits : tie.Need-cast-bits Inv-loop μ-loop
-cast-bits c = search needs
-
-shr-bits : tie.Need-shr-bits Inv-loop μ-loop
-shr-bits c = search needs
-
-cast-bits-2 : tie.Need-cast-bits-2 Inv-loop μ-loop
-cast-bits-2 c = search needs
-
-shl-bits : tie.Need-shl-bits Inv-loop μ-loop
-shl-bits c = search needs
-
-add-j : tie.Need-add-j Inv-loop μ-loop
-add-j c = search needs
-
-loop-less : tie.Need-loop-less Inv-loop μ-loop
-loop-less c = search needs
-
 loop-again : tie.Need-loop-again Inv-loop μ-loop
 loop-again c =
     let args = c .before .before .before .args in
-    let j = c .before .before .loop .j in
+    let at = c .before .before .loop in
     let g : ℕ → Bool = λ n. bitAt (getD (args .words .now) (args .from + n) 0) (args .k) in
-    (omega arith, gathered-more g j (args .k) (getD (args .words .now) (args .from + j) 0) (c .before .before .loop .bits) (omega arith) (c .before .before .loop .inv .1) refl)
+    (omega arith, gathered-more g (at .j) (args .k) (getD (args .words .now) (args .from + at .j) 0) (at .bits) (omega arith) (at .inv .1) refl)
 
 returns : tie.Need-returns Inv-loop μ-loop
 returns c =
@@ -62,19 +35,5 @@ returns c =
 
 pub gathered-spec : {M : Type 1} → statement M
 gathered-spec =
-    tie.close
-    (tie.spec
-    Inv-loop
-    μ-loop
-    loop-holds
-    add-bits
-    mul-bits
-    element-copy-out-bits
-    cast-bits
-    shr-bits
-    cast-bits-2
-    shl-bits
-    add-j
-    loop-less
-    loop-again
-    returns)
+    tie.close (tie.spec Inv-loop μ-loop loop-holds (λ c. search needs) (λ c. search needs) (λ c. search needs) (λ c. search needs) (λ c. search needs)
+    (λ c. search needs) (λ c. search needs) (λ c. search needs) (λ c. search needs) loop-again returns)

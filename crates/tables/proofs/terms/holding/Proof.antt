@@ -19,27 +19,6 @@ abbrev μ-loop : tie.MeasureT-loop
 loop-holds : tie.Need-loop-holds Inv-loop μ-loop
 loop-holds c = (omega arith, search needs, λ p h. absurd (omega arith))
 
-mul-kept-word : tie.Need-mul-kept-word Inv-loop μ-loop
-mul-kept-word c = search needs
-
-array-read-kept-word : tie.Need-array-read-kept-word Inv-loop μ-loop
-array-read-kept-word c = search needs
-
-kept-word-requires : tie.Need-kept-word-requires Inv-loop μ-loop
-kept-word-requires c κs = search needs
-
-mul-kept : tie.Need-mul-kept Inv-loop μ-loop
-mul-kept c = search needs
-
-array-write-kept : tie.Need-array-write-kept Inv-loop μ-loop
-array-write-kept c = search needs
-
-add-w : tie.Need-add-w Inv-loop μ-loop
-add-w c = search needs
-
-loop-less : tie.Need-loop-less Inv-loop μ-loop
-loop-less c = search needs
-
 loop-again : tie.Need-loop-again Inv-loop μ-loop
 loop-again c =
     let args = c .before .before .before .args in
@@ -59,17 +38,5 @@ returns c =
 
 pub holding-spec : {M : Type 1} → statement M
 holding-spec =
-    tie.close
-    (tie.spec
-    Inv-loop
-    μ-loop
-    loop-holds
-    mul-kept-word
-    array-read-kept-word
-    kept-word-requires
-    mul-kept
-    array-write-kept
-    add-w
-    loop-less
-    loop-again
-    returns)
+    tie.close (tie.spec Inv-loop μ-loop loop-holds (λ c. search needs) (λ c. search needs) (λ c κs. search needs) (λ c. search needs)
+    (λ c. search needs) (λ c. search needs) (λ c. search needs) loop-again returns)

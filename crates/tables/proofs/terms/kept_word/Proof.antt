@@ -6,15 +6,6 @@ use borrow.Author.Needs.{needs}
 use Rattle.tables.proofs.terms.kept_word.Statement.{statement}
 use Rattle.tables.proofs.terms.kept_word.Tie as tie
 
-enum-told : tie.Need-enum-told
-enum-told c = search needs
-
-enum-told-2 : tie.Need-enum-told-2
-enum-told-2 c = search needs
-
-enum-told-3 : tie.Need-enum-told-3
-enum-told-3 c = search needs
-
 returns : tie.Need-returns
 unfolding the term
 returns c = rw (c .before .enum-told .given .1) (none-kept _ _ (c .if1 .taken))
@@ -37,5 +28,4 @@ returns-5 c = rw (c .enum-told3 .given .1) (greens-kept _ (c .before .before .fi
 
 pub kept-word-spec : {M : Type 1} → statement M
 kept-word-spec =
-    tie.close
-    (tie.spec enum-told enum-told-2 enum-told-3 returns returns-2 returns-3 returns-4 returns-5)
+    tie.close (tie.spec (λ c. search needs) (λ c. search needs) (λ c. search needs) returns returns-2 returns-3 returns-4 returns-5)

@@ -2,9 +2,9 @@
 use borrow.Author.Tests.{lt-leb, le-leb}
 use Rattle.gf2.specs.Digits.{highFirst}
 use Rattle.circuit.specs.declared.Colour.the-variants.{Blue, Green}
-use Rattle.tables.specs.Packing.{strings, added, withOutput}
-use Rattle.tables.proofs.output.with_output.Statement.{statement}
-use Rattle.tables.proofs.output.with_output.Tie as tie
+use Rattle.tables.specs.Table.{strings, added, withOutput}
+use Rattle.tables.proofs.outputs.with_output.Statement.{statement}
+use Rattle.tables.proofs.outputs.with_output.Tie as tie
 
 returns : tie.Need-returns
 returns c = λ f e. rw (lt-leb _ 16 (c .if1 .taken)) e
@@ -28,4 +28,5 @@ returns-2 c =
     (c .before .add-string2 .ensures (added Green (highFirst (args .m) (args .g)) f) (c .before .before .add-string .ensures f e)))
 
 pub with-output-spec : {M : Type 1} → statement M
-with-output-spec = tie.close (tie.spec returns add-string-requires add-string-requires-2 add-string-requires-3 returns-2)
+with-output-spec =
+    tie.close (tie.spec returns add-string-requires add-string-requires-2 add-string-requires-3 returns-2)

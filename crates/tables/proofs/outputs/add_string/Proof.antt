@@ -12,8 +12,8 @@ use Rattle.circuit.specs.Polynomial.{Polynomial}
 use Rattle.polynomial.specs.Words.{wordsOf}
 use Rattle.tables.proofs.OutputWords.{addedBelow, position-bit, words-begun, words-next, words-passed, words-ended}
 use borrow.Author.Needs.{needs}
-use Rattle.tables.proofs.output.add_string.Statement.{statement}
-use Rattle.tables.proofs.output.add_string.Tie as tie
+use Rattle.tables.proofs.outputs.add_string.Statement.{statement}
+use Rattle.tables.proofs.outputs.add_string.Tie as tie
 
 abbrev Inv-loop : tie.InvT-loop
 Inv-loop colour m value next₀ p₀ next p =
@@ -30,36 +30,6 @@ loop-holds c = (
   search needs,
   λ f e. e ∙ words-begun (c .args .colour) (highFirst (c .args .m) (c .args .value)) f,
 )
-
-bit-requires : tie.Need-bit-requires Inv-loop μ-loop
-bit-requires c κs = search needs
-
-word-of-requires : tie.Need-word-of-requires Inv-loop μ-loop
-word-of-requires c κs = search needs
-
-bit-of-requires : tie.Need-bit-of-requires Inv-loop μ-loop
-bit-of-requires c κs = search needs
-
-mul-toggle : tie.Need-mul-toggle Inv-loop μ-loop
-mul-toggle c = search needs
-
-array-read-toggle : tie.Need-array-read-toggle Inv-loop μ-loop
-array-read-toggle c = search needs
-
-toggle-requires : tie.Need-toggle-requires Inv-loop μ-loop
-toggle-requires c κs = search needs
-
-mul-next : tie.Need-mul-next Inv-loop μ-loop
-mul-next c = search needs
-
-array-write-next : tie.Need-array-write-next Inv-loop μ-loop
-array-write-next c = search needs
-
-add-p : tie.Need-add-p Inv-loop μ-loop
-add-p c = search needs
-
-loop-less : tie.Need-loop-less Inv-loop μ-loop
-loop-less c = search needs
 
 loop-again : tie.Need-loop-again Inv-loop μ-loop
 loop-again c =
@@ -95,20 +65,5 @@ returns c =
 
 pub add-string-spec : {M : Type 1} → statement M
 add-string-spec =
-    tie.close
-    (tie.spec
-    Inv-loop
-    μ-loop
-    loop-holds
-    bit-requires
-    word-of-requires
-    bit-of-requires
-    mul-toggle
-    array-read-toggle
-    toggle-requires
-    mul-next
-    array-write-next
-    add-p
-    loop-less
-    loop-again
-    returns)
+    tie.close (tie.spec Inv-loop μ-loop loop-holds (λ c κs. search needs) (λ c κs. search needs) (λ c κs. search needs) (λ c. search needs)
+    (λ c. search needs) (λ c κs. search needs) (λ c. search needs) (λ c. search needs) (λ c. search needs) (λ c. search needs) loop-again returns)

@@ -2,20 +2,8 @@
 use native.Mathlib.Omega.{arith}
 use Rattle.circuit.specs.Colours.{join}
 use borrow.Author.Needs.{needs}
-use Rattle.tables.proofs.output.word_of.Statement.{statement}
-use Rattle.tables.proofs.output.word_of.Tie as tie
-
-enum-told : tie.Need-enum-told
-enum-told c = search needs
-
-mul-result : tie.Need-mul-result
-mul-result c = search needs
-
-enum-told-2 : tie.Need-enum-told-2
-enum-told-2 c = search needs
-
-enum-told-3 : tie.Need-enum-told-3
-enum-told-3 c = search needs
+use Rattle.tables.proofs.outputs.word_of.Statement.{statement}
+use Rattle.tables.proofs.outputs.word_of.Tie as tie
 
 returns : tie.Need-returns
 unfolding join
@@ -31,4 +19,4 @@ returns-3 c = rw (c .enum-told3 .given .1) (omega arith, omega arith)
 
 pub word-of-spec : {M : Type 1} → statement M
 word-of-spec =
-    tie.close (tie.spec enum-told mul-result enum-told-2 enum-told-3 returns returns-2 returns-3)
+    tie.close (tie.spec (λ c. search needs) (λ c. search needs) (λ c. search needs) (λ c. search needs) returns returns-2 returns-3)

@@ -1,17 +1,8 @@
 -- The term that holds a position alone has index 0 in the other two colours.
 use Rattle.circuit.specs.Colours.{join}
 use borrow.Author.Needs.{needs}
-use Rattle.tables.proofs.output.bit_of.Statement.{statement}
-use Rattle.tables.proofs.output.bit_of.Tie as tie
-
-enum-told : tie.Need-enum-told
-enum-told c = search needs
-
-enum-told-2 : tie.Need-enum-told-2
-enum-told-2 c = search needs
-
-enum-told-3 : tie.Need-enum-told-3
-enum-told-3 c = search needs
+use Rattle.tables.proofs.outputs.bit_of.Statement.{statement}
+use Rattle.tables.proofs.outputs.bit_of.Tie as tie
 
 returns : tie.Need-returns
 unfolding join
@@ -26,4 +17,5 @@ unfolding join
 returns-3 c = rw (c .enum-told3 .given .1)
 
 pub bit-of-spec : {M : Type 1} → statement M
-bit-of-spec = tie.close (tie.spec enum-told enum-told-2 enum-told-3 returns returns-2 returns-3)
+bit-of-spec =
+    tie.close (tie.spec (λ c. search needs) (λ c. search needs) (λ c. search needs) returns returns-2 returns-3)

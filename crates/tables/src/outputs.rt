@@ -7,7 +7,7 @@ ghost use Rattle.gf2.specs.Digits.{highFirst};
 ghost use Rattle.circuit.specs.Colours.{join};
 ghost use Rattle.circuit.specs.Polynomial.{Polynomial};
 ghost use Rattle.polynomial.specs.Words.{wordsOf};
-ghost use Rattle.tables.specs.Packing.{strings, added, withOutput};
+ghost use Rattle.tables.specs.Table.{strings, added, withOutput};
 use circuit::Colour;
 use polynomial::WORDS;
 
