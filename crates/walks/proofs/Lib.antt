@@ -1,3 +1,0 @@
-pub mod BitTests
-pub mod Successor
-pub mod SliceWords
