@@ -20,7 +20,7 @@ use Rattle.circuit.specs.Polynomial.{Polynomial, polynomial}
 use Rattle.circuit.specs.Holding.{holding}
 use Rattle.circuit.specs.Start.{withStart}
 use Rattle.polynomial.specs.Words.{wordsOf}
-use Rattle.tables.specs.Packing.{strings, withOutput, tableOf}
+use Rattle.tables.specs.Table.{strings, withOutput, tableOf}
 use Rattle.slices.specs.Totals.{amplitudeAfter, tallyBelow, readoutAfter}
 use Rattle.slices.specs.OneColour.{oneAfter}
 use Rattle.held.specs.declared.Numbers.{Numbers}

@@ -44,7 +44,7 @@ totalAfter (one C x) c w = OneColour (oneAfter (c .m) (polynomial (c .gates)) C 
 
 -- The fields of the state: what exactly the slices worked add up to, how many they are, and the table that slices are read from.
 unfoldable pub encodeSum : Opened → Sum
-encodeSum closed = record { total = Closed; worked = 0; table = replicate 102 0 }
+encodeSum closed = record { total = Closed; worked = 0; table = replicate 289 0 }
 encodeSum (running o) =
     record { total = totalAfter (o .asked) (o .circuit) (o .worked); worked = o .worked; table = tableFor (o .asked) (o .circuit) }
 

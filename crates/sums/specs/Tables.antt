@@ -8,7 +8,7 @@ use Rattle.circuit.specs.Sum.{Basis}
 use Rattle.circuit.specs.Start.{withStart}
 use Rattle.circuit.specs.Polynomial.{Polynomial, polynomial}
 use Rattle.circuit.specs.Holding.{holding}
-use Rattle.tables.specs.Packing.{withOutput, tableOf}
+use Rattle.tables.specs.Table.{withOutput, tableOf}
 use Rattle.held.specs.Circuit.{Circuit, carried}
 use Rattle.forms.specs.Typed.{Asked, amp, part, one}
 

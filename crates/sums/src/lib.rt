@@ -8,7 +8,7 @@ ghost use Rattle.circuit.specs.Colours.{first, join, colours};
 ghost use Rattle.circuit.specs.Start.{withStart};
 ghost use Rattle.circuit.specs.Polynomial.{polynomial};
 ghost use Rattle.polynomial.specs.Words.{wordsOf};
-ghost use Rattle.tables.specs.Packing.{strings, withOutput};
+ghost use Rattle.tables.specs.Table.{strings, withOutput};
 ghost use Rattle.held.specs.Circuit.{Circuit, carried};
 ghost use Rattle.held.specs.Memory.{encodeCircuit, SoundCircuit};
 ghost use Rattle.forms.specs.Typed.{Asked, amp, part, one};
@@ -20,7 +20,6 @@ use circuit::Colour;
 use held::Held;
 use held::Numbers;
 use polynomial::WORDS;
-use tables::table::TABLE;
 
 // What the slices worked add up to, by what the sum was opened for.
 pub enum Total {
@@ -36,7 +35,7 @@ pub struct Sum {
     // How many slices are worked.
     pub worked: usize,
     // What the slices are read from, made when the sum was opened.
-    pub table: [u64; TABLE],
+    pub table: [u32; WORDS],
 }
 
 // What a step leaves, and its answer.
@@ -51,7 +50,7 @@ pub fn none() -> Sum
     Sum {
         total: Total::Closed,
         worked: 0,
-        table: [0u64; TABLE],
+        table: [0u32; WORDS],
     }
 }
 
@@ -104,7 +103,7 @@ fn words_with_output(held: Held, output: Numbers) -> [u32; WORDS]
 {
     let start = held.carried;
     let words = held.polynomial;
-    tables::output::with_output(
+    tables::outputs::with_output(
         words,
         held.m,
         output.red ^ start.red,
@@ -171,7 +170,7 @@ pub fn open_one_colour(held: Held, read: Colour, x: u32) -> Sum
 }
 
 // The total with `count` more slices, from slice `from` on.
-fn with_slices(total: Total, table: [u64; TABLE], m: usize, from: usize, count: usize) -> Total
+fn with_slices(total: Total, table: [u32; WORDS], m: usize, from: usize, count: usize) -> Total
     ensures { λ t. ⌜ ((o : OpenSum) → SoundSum m o → from ≡ o .worked → total ≡ totalAfter (o .asked) (o .circuit) from → table ≡ tableFor (o .asked) (o .circuit) →
         from + count ≤ 2 ^ m → t ≡ totalAfter (o .asked) (o .circuit) (from + count)) ⌝ }
 {

@@ -1,12 +1,13 @@
 -- What the code checks at entry, as the facts that it then goes by.
-use mathlib.Core.Path.{_≡_, refl, sym, _∙_}
-use mathlib.Core.Bool.{Bool, true, false, true≢false, _&&_}
+use mathlib.Core.Path.{_≡_, refl, sym, _∙_, ap}
+use mathlib.Core.Bool.{Bool, true, false, true≢false, not}
 use Prim.Native.Nat.{ℕ, suc, _+_, _-_, _^_, _≤_, _<_}
 use native.Mathlib.Omega.{arith}
 use lib.Dec.{leb}
 use lib.IntN.{ℤ, pos, negsuc, natAbs}
 use lib.Signed.{ltZ, leZ}
-use borrow.Author.Tests.{leb-true, leb-false, le-leb, lt-leb, ltb-true, ltb-false}
+use borrow.Author.Tests.{leb-true, leb-false, le-leb, lt-leb, ltb-true, ltb-false, not-false}
+use Rattle.gf2.proofs.Bits.{and-both}
 use Rattle.slices.specs.Totals.{areSlices, moderate}
 
 -- ---- slices
@@ -27,14 +28,13 @@ range-tested m from count h l = rw (le-leb m 16 h) (go (leb count (2 ^ m - from)
     go true e = e ∙ sym (le-leb (from + count) (2 ^ m) (omega (arith, leb-true count (2 ^ m - from) e)))
     go false e = e ∙ sym (lt-leb (from + count) (2 ^ m) (omega (arith, leb-false count (2 ^ m - from) e)))
 
-pub range-holds : (m from count : ℕ) → areSlices m from count ≡ true → (m ≤ 16) × (from + count ≤ 2 ^ m)
+pub range-kept : (m from count : ℕ) {r : Bool} → r ≡ areSlices m from count → not r ≡ false
+    → (areSlices m from count ≡ true) × (m ≤ 16) × (from + count ≤ 2 ^ m)
 unfolding areSlices
-range-holds m from count e = go (leb m 16) (leb (from + count) (2 ^ m)) refl refl e
-  where
-    go : (a b : Bool) → leb m 16 ≡ a → leb (from + count) (2 ^ m) ≡ b → a && b ≡ true → (m ≤ 16) × (from + count ≤ 2 ^ m)
-    go true true p q r = (leb-true m 16 p, leb-true (from + count) (2 ^ m) q)
-    go true false p q r = absurd (true≢false (sym r))
-    go false b p q r = absurd (true≢false (sym r))
+range-kept m from count {r} e n =
+    let y : areSlices m from count ≡ true = sym e ∙ not-false r n in
+    let b : _ = and-both (leb m 16) (leb (from + count) (2 ^ m)) y in
+    (y, leb-true m 16 (b .0), leb-true (from + count) (2 ^ m) (b .1))
 
 pub range-of : (m from count : ℕ) → m ≤ 16 → from + count ≤ 2 ^ m → areSlices m from count ≡ true
 unfolding areSlices
@@ -52,9 +52,9 @@ unfolding moderate
 total-tested (pos n) e = refl
 total-tested (negsuc n) e = sym (le-leb (suc n) (2 ^ 60) (omega (arith, ltb-false 1152921504606846975 n e)))
 
-pub moderate-holds : (t : ℤ) → moderate t ≡ true → natAbs t ≤ 2 ^ 60
+pub moderate-kept : {t u : ℤ} {r : Bool} → r ≡ moderate t → t ≡ u → not r ≡ false → (moderate u ≡ true) × (natAbs u ≤ 2 ^ 60)
 unfolding moderate
-moderate-holds t e = leb-true (natAbs t) (2 ^ 60) e
+moderate-kept {t} {u} {r} e q n = let y : moderate u ≡ true = sym (e ∙ ap moderate q) ∙ not-false r n in (y, leb-true (natAbs u) (2 ^ 60) y)
 
 pub moderate-of : (t : ℤ) → natAbs t ≤ 2 ^ 60 → moderate t ≡ true
 unfolding moderate

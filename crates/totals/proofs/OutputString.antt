@@ -8,7 +8,7 @@ use lib.ListN.{length}
 use lib.Dec.{eqb}
 use Rattle.gf2.specs.Strings.{BitString, _⊕_, dot, bit}
 use Rattle.gf2.specs.Sums.{parity}
-use Rattle.gf2.proofs.Bits.{false-⊕, xor-ac, and-left-comm, and-⊕-r, and-ac}
+use Rattle.gf2.proofs.Bits.{false-⊕, xor-ac, and-⊕-r, and-ac}
 use Rattle.gf2.proofs.Parities.{parity-ext, parity-⊕, parity-and, parity-at, parity-false}
 use Rattle.circuit.specs.declared.Colour.{Colour}
 use Rattle.circuit.specs.declared.Colour.the-variants.{Red, Blue, Green}
@@ -18,8 +18,7 @@ use Rattle.circuit.specs.Polynomial.{Polynomial, value}
 use Rattle.circuit.proofs.Three.{the-join, first-join, second-join, join-parts}
 use Rattle.circuit.proofs.Value.{factor, value-join, parity₂-ext, parity₂-⊕}
 use Rattle.circuit.proofs.Phase.{Sized}
-use Rattle.tables.specs.Packing.{added, withOutput}
-use Rattle.slices.specs.Slices.{coefficient}
+use Rattle.tables.specs.Table.{added, withOutput}
 use Rattle.slices.proofs.Slicing.{parity-head}
 
 bit-dot : (n : ℕ) (z p : BitString) → length z ≡ n → parity n (λ i. bit i z && bit i p) ≡ dot p z
@@ -38,10 +37,6 @@ position-dot m z p h = parity-head m (λ i. at i z && bit i (false ∷ p)) ∙ f
 one-one : (u v : BitString) (b : Bool) → at 0 u && (at 0 v && b) ≡ b
 unfolding at bit
 one-one u v b = refl
-
-one-position : (z : BitString) (b : Bool) → at 0 z && b ≡ b
-unfolding at bit
-one-position z b = refl
 
 factor-added : (m : ℕ) (f : Polynomial) (C : Colour) (p u v : BitString) (i : ℕ) → factor m (added C p f) C u v i ≡ factor m f C u v i ⊕ bit i (false ∷ p)
 unfolding factor added
@@ -85,49 +80,3 @@ value-output m f s x h =
   where
     order : (t r b g : Bool) → ((t ⊕ g) ⊕ b) ⊕ r ≡ t ⊕ (r ⊕ (b ⊕ g))
     order t r b g = simp xor-ac
-
-output-join : (C : Colour) (s : Basis) (f : Polynomial) (k i j : ℕ)
-    → withOutput s f (join C k i j) ≡ f (join C k i j) ⊕ ((eqb i 0 && (eqb j 0 && bit k (false ∷ the C s))) ⊕ ((eqb k 0 && (eqb j 0 && bit i (false ∷ first C s))) ⊕ (eqb k 0 && (eqb i 0 && bit j (false ∷ second C s)))))
-unfolding withOutput added the first second join
-output-join Red s f k i j = order (f (join Red k i j)) (eqb k 0 && (eqb i 0 && bit j (false ∷ s .green))) (eqb k 0 && (eqb j 0 && bit i (false ∷ s .blue))) (eqb i 0 && (eqb j 0 && bit k (false ∷ s .red)))
-  where
-    order : (f g b r : Bool) → ((f ⊕ g) ⊕ b) ⊕ r ≡ f ⊕ (r ⊕ (b ⊕ g))
-    order f g b r = simp xor-ac
-output-join Blue s f k i j = ap (λ x. ((f (join Blue k i j) ⊕ x) ⊕ (eqb i 0 && (eqb j 0 && bit k (false ∷ s .blue)))) ⊕ (eqb k 0 && (eqb j 0 && bit i (false ∷ s .red)))) (and-left-comm (eqb i 0) (eqb k 0) (bit j (false ∷ s .green)))
-    ∙ order (f (join Blue k i j)) (eqb k 0 && (eqb i 0 && bit j (false ∷ s .green))) (eqb i 0 && (eqb j 0 && bit k (false ∷ s .blue))) (eqb k 0 && (eqb j 0 && bit i (false ∷ s .red)))
-  where
-    order : (f g b r : Bool) → ((f ⊕ g) ⊕ b) ⊕ r ≡ f ⊕ (b ⊕ (r ⊕ g))
-    order f g b r = simp xor-ac
-output-join Green s f k i j = ap₂ (λ x y. ((f (join Green k i j) ⊕ (eqb i 0 && (eqb j 0 && bit k (false ∷ s .green)))) ⊕ x) ⊕ y) (and-left-comm (eqb i 0) (eqb k 0) (bit j (false ∷ s .blue))) (and-left-comm (eqb j 0) (eqb k 0) (bit i (false ∷ s .red)))
-    ∙ order (f (join Green k i j)) (eqb i 0 && (eqb j 0 && bit k (false ∷ s .green))) (eqb k 0 && (eqb i 0 && bit j (false ∷ s .blue))) (eqb k 0 && (eqb j 0 && bit i (false ∷ s .red)))
-  where
-    order : (f g b r : Bool) → ((f ⊕ g) ⊕ b) ⊕ r ≡ f ⊕ (g ⊕ (r ⊕ b))
-    order f g b r = simp xor-ac
-
-pub coefficient-output : (C : Colour) (m : ℕ) (s : Basis) (f : Polynomial) (z : BitString) (i j : ℕ) → length z ≡ m
-    → coefficient m (withOutput s f) C z i j ≡ coefficient m f C z i j ⊕ ((eqb i 0 && (eqb j 0 && dot (the C s) z)) ⊕ ((eqb j 0 && bit i (false ∷ first C s)) ⊕ (eqb i 0 && bit j (false ∷ second C s))))
-unfolding coefficient
-coefficient-output C m s f z i j h =
-    parity-ext n (λ k. at k z && withOutput s f (join C k i j)) (λ k. (at k z && f (join C k i j)) ⊕ ((eqb i 0 && (eqb j 0 && (at k z && bit k (false ∷ the C s)))) ⊕ ((eqb k 0 && (at k z && p)) ⊕ (eqb k 0 && (at k z && q))))) at-k
-    ∙ parity-⊕ n (λ k. at k z && f (join C k i j)) (λ k. (eqb i 0 && (eqb j 0 && (at k z && bit k (false ∷ the C s)))) ⊕ ((eqb k 0 && (at k z && p)) ⊕ (eqb k 0 && (at k z && q))))
-    ∙ ap (λ x. parity n (λ k. at k z && f (join C k i j)) ⊕ x)
-    (parity-⊕ n (λ k. eqb i 0 && (eqb j 0 && (at k z && bit k (false ∷ the C s)))) (λ k. (eqb k 0 && (at k z && p)) ⊕ (eqb k 0 && (at k z && q)))
-    ∙ ap₂ _⊕_ (parity-and n (eqb i 0) (λ k. eqb j 0 && (at k z && bit k (false ∷ the C s))) ∙ ap (λ x. eqb i 0 && x) (parity-and n (eqb j 0) (λ k. at k z && bit k (false ∷ the C s)) ∙ ap (λ x. eqb j 0 && x) (position-dot m z (the C s) h)))
-    (parity-⊕ n (λ k. eqb k 0 && (at k z && p)) (λ k. eqb k 0 && (at k z && q)) ∙ ap₂ _⊕_ (parity-at n 0 (λ k. at k z && p) (omega arith) ∙ one-position z p) (parity-at n 0 (λ k. at k z && q) (omega arith) ∙ one-position z q)))
-  where
-    n : ℕ
-    n = suc m
-
-    p : Bool
-    p = eqb j 0 && bit i (false ∷ first C s)
-
-    q : Bool
-    q = eqb i 0 && bit j (false ∷ second C s)
-
-    spread : (x f a b c e p q : Bool) → x && (f ⊕ ((a && (b && c)) ⊕ ((e && p) ⊕ (e && q)))) ≡ (x && f) ⊕ ((a && (b && (x && c))) ⊕ ((e && (x && p)) ⊕ (e && (x && q))))
-    spread x f a b c e p q = and-⊕-r x f ((a && (b && c)) ⊕ ((e && p) ⊕ (e && q)))
-        ∙ ap (λ y. (x && f) ⊕ y) (and-⊕-r x (a && (b && c)) ((e && p) ⊕ (e && q))
-        ∙ ap₂ _⊕_ (and-left-comm x a (b && c) ∙ ap (λ y. a && y) (and-left-comm x b c)) (and-⊕-r x (e && p) (e && q) ∙ ap₂ _⊕_ (and-left-comm x e p) (and-left-comm x e q)))
-
-    at-k : (k : ℕ) → at k z && withOutput s f (join C k i j) ≡ (at k z && f (join C k i j)) ⊕ ((eqb i 0 && (eqb j 0 && (at k z && bit k (false ∷ the C s)))) ⊕ ((eqb k 0 && (at k z && p)) ⊕ (eqb k 0 && (at k z && q))))
-    at-k k = ap (λ x. at k z && x) (output-join C s f k i j) ∙ spread (at k z) (f (join C k i j)) (eqb i 0) (eqb j 0) (bit k (false ∷ the C s)) (eqb k 0) p q

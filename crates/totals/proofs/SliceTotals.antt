@@ -1,31 +1,23 @@
--- Totals after more slices: the sums of a walk are what the definitions add, and a total of slices is small enough to be added to.
+-- Totals after more slices, and that a total of slices is small enough to be added to.
 use mathlib.Core.Path.{_≡_, refl, sym, _∙_, ap, ap₂}
-use mathlib.Core.Bool.{Bool, true, false, cond, _&&_}
-use mathlib.Core.List.{List}
-use Prim.Native.Nat.{ℕ, zero, suc, _+_, _*_, _^_, _≤_}
+use mathlib.Core.Bool.{Bool, true, cond, _&&_}
+use Prim.Native.Nat.{ℕ, zero, suc, _+_, _*_, _^_, _≤_, _<_}
 use native.Mathlib.Nat.{zero-add, add-zero, add-suc, add-assoc, le-trans, mul-le-mul-right}
 use native.Mathlib.Omega.{arith}
-use lib.IntN.{ℤ, natAbs, _+ℤ_}
+use lib.IntN.{ℤ, pos, negsuc, natAbs, _+ℤ_}
 use lib.Pow.{pow-mono, pow-add}
+use mir.Syntax.{w64}
+use mir.Val.{SFits}
 use borrow.Author.Tests.{le-leb}
 use Rattle.gf2.specs.Strings.{BitString}
 use Rattle.gf2.specs.Digits.{highFirst}
-use Rattle.gf2.proofs.Below.{sumBelow-cong, sumBelow-add}
+use Rattle.gf2.proofs.Below.{sumBelow-add}
 use Rattle.circuit.specs.declared.Colour.{Colour}
-use Rattle.circuit.specs.declared.Gate.{Gate}
-use Rattle.circuit.specs.Colours.{first, second}
 use Rattle.circuit.specs.Sum.{Basis}
-use Rattle.circuit.specs.Polynomial.{Polynomial, polynomial}
-use Rattle.circuit.proofs.PolynomialTerms.{polynomial-terms}
-use Rattle.tables.specs.Packing.{strings, withOutput, Tabled}
-use Rattle.totals.specs.declared.answer.Slice.{Slice}
-use Rattle.totals.specs.declared.Sums.{Sums}
+use Rattle.circuit.specs.Polynomial.{Polynomial}
 use Rattle.slices.specs.Totals.{signedPart, amplitudeAfter, amplitudeOver, share, tallyBelow, readoutAfter, readoutOver, areSlices, moderate, moderateCount}
-use Rattle.totals.specs.Answers.{sliceAnswer, answerAt, shareOf}
-use Rattle.totals.specs.Walking.{sharesOver, Walked}
 use Rattle.slices.proofs.Bounds.{amplitudeAfter-bound, readoutAfter-bound}
-use Rattle.totals.proofs.EntryChecks.{range-of, range-holds, moderate-of}
-use Rattle.totals.proofs.SliceAnswer.{slice-answers, share-by-answer, length-strings}
+use Rattle.totals.proofs.EntryChecks.{range-of, moderate-of}
 
 pub tallyBelow-add : (a b : ℕ) (f : ℕ → ℕ) → tallyBelow (a + b) f ≡ tallyBelow a f + tallyBelow b (λ z. f (a + z))
 unfolding tallyBelow
@@ -60,50 +52,6 @@ pub readout-first : (m : ℕ) (f : Polynomial) (C : Colour) (X Y : BitString) (w
 unfolding readoutAfter readoutOver
 readout-first m f C X Y w = simp zero-add
 
--- ---- a walk's sums and the totals
-
-module _ (m : ℕ) (gs : List Gate) (C : Colour) (r b g : ℕ) (table : List ℕ) (tabled : Tabled m gs C (strings m r b g) table) (small : m ≤ 16) where
-  abbrev f : Polynomial
-  f = polynomial gs
-
-  abbrev s : Basis
-  s = strings m r b g
-
-  -- Slice n of a sum's table answers what the definitions say.
-  pub answers : (n : ℕ) → answerAt m (withOutput (strings m r b g) (polynomial gs)) C n ≡ sliceAnswer m (polynomial gs) C (strings m r b g) (highFirst m n)
-  answers n = slice-answers m f (polynomial-terms m gs (tabled .gates)) C s small (length-strings C m r b g .0) (length-strings C m r b g .1) n
-
-  -- What a walk adds up is what its slices add to the totals.
-  pub walked-amplitude : (from count : ℕ) (w : Sums) → Walked table 2 m from count w → w .signed ≡ amplitudeOver m (polynomial gs) C (strings m r b g) from count
-  unfolding amplitudeOver sliceAnswer
-  walked-amplitude from count w h =
-      h .signed-exact (withOutput s f) C (tabled .made)
-      ∙ sumBelow-cong count (λ k. (answerAt m (withOutput s f) C (from + k)) .signed) (λ k. signedPart m f C s (highFirst m (from + k)))
-      (λ k l. ap (λ (a : Slice). a .signed) (answers (from + k)))
-
-  shares-readout : (from count : ℕ)
-      → sharesOver 2 m (withOutput s f) C from count ≡ readoutOver m (polynomial gs) C (first C (strings m r b g)) (second C (strings m r b g)) from count
-  unfolding sharesOver readoutOver
-  shares-readout from count =
-      tallyBelow-ext count (λ k. shareOf 2 m (answerAt m (withOutput s f) C (from + k))) (λ k. share m f C (first C s) (second C s) (highFirst m (from + k)))
-      (λ k. ap (shareOf 2 m) (answers (from + k)) ∙ share-by-answer m f C s (highFirst m (from + k)))
-
--- A total with some slices added, or as it is where there are none such: what they add is asked for an m of at most 16 only.
-pub added-alike : (m from count total a b : ℕ) → (m ≤ 16 → a ≡ b)
-    → cond (areSlices m from count && moderateCount total) (total + a) total ≡ cond (areSlices m from count && moderateCount total) (total + b) total
-added-alike m from count total a b same = go (areSlices m from count) refl
-  where
-    go : (x : Bool) → areSlices m from count ≡ x → cond (x && moderateCount total) (total + a) total ≡ cond (x && moderateCount total) (total + b) total
-    go true e = ap (λ (n : ℕ). cond (moderateCount total) (total + n) total) (same (range-holds m from count e .0))
-    go false e = refl
-
-pub counted-readout : (m : ℕ) (gs : List Gate) (C : Colour) (r b g : ℕ) (table : List ℕ) → Tabled m gs C (strings m r b g) table → (from count total : ℕ)
-    → cond (areSlices m from count && moderateCount total) (total + sharesOver 2 m (withOutput (strings m r b g) (polynomial gs)) C from count) total
-    ≡ cond (areSlices m from count && moderateCount total)
-    (total + readoutOver m (polynomial gs) C (first C (strings m r b g)) (second C (strings m r b g)) from count) total
-counted-readout m gs C r b g table t from count total =
-    added-alike m from count total _ _ (λ small. shares-readout m gs C r b g table t small from count)
-
 -- ---- totals are small
 
 pub few-slices : (m w : ℕ) → m ≤ 16 → w ≤ 2 ^ m → w * 2 ^ (2 * m) ≤ 2 ^ 48
@@ -114,6 +62,11 @@ amplitude-small m f C s w h l = omega (arith, amplitudeAfter-bound m f C s w, fe
 
 pub readout-small : (m : ℕ) (f : Polynomial) (C : Colour) (X Y : BitString) (w : ℕ) → m ≤ 16 → w ≤ 2 ^ m → readoutAfter m f C X Y w ≤ 2 ^ 48
 readout-small m f C X Y w h l = omega (arith, readoutAfter-bound m f C X Y w, few-slices m w h l)
+
+-- A word of 64 bits holds a number that is less than 2^63 from 0.
+pub abs-fits : (z : ℤ) → natAbs z < 2 ^ 63 → SFits w64 z
+abs-fits (pos n) h = record { sfits = h }
+abs-fits (negsuc n) h = record { sfits = omega arith }
 
 -- So an open sum's total is one that slices are added to.
 pub count-moderate : (n : ℕ) → n ≤ 2 ^ 48 → moderateCount n ≡ true

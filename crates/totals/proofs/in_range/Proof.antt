@@ -12,9 +12,6 @@ use Rattle.totals.proofs.in_range.Tie as tie
 returns : tie.Need-returns
 returns c = range-refused (c .before .args .m) (c .before .args .from) (c .before .args .count) (c .if1 .taken)
 
-shl-all : tie.Need-shl-all
-shl-all c = search needs
-
 returns-2 : tie.Need-returns-2
 returns-2 c =
     let a : _ = c .before .before .args in
@@ -28,4 +25,4 @@ returns-3 c =
     ap (λ (x : ℕ). leb (a .count) (x - a .from)) s ∙ range-tested (a .m) (a .from) (a .count) (omega arith) (omega arith)
 
 pub in-range-spec : {M : Type 1} → statement M
-in-range-spec = tie.close (tie.spec returns shl-all returns-2 returns-3)
+in-range-spec = tie.close (tie.spec returns (λ c. search needs) returns-2 returns-3)

@@ -1,0 +1,32 @@
+-- After r turns the first r words are raised, and `below` is the word before.
+use mathlib.Core.Path.{_≡_}
+use Prim.Native.Nat.{ℕ, _-_, _≤_}
+use native.Mathlib.Omega.{arith}
+use lib.ListN.{length}
+use Rattle.gf2.specs.Words.{bitAt}
+use Rattle.totals.specs.Weights.{heldBelow, Raised}
+use Rattle.totals.proofs.PivotCounts.{below-none, below-next, raised-none, raised-next}
+use borrow.Author.Needs.{needs}
+use Rattle.totals.proofs.ranks.raise.Statement.{statement}
+use Rattle.totals.proofs.ranks.raise.Tie as tie
+
+abbrev Inv-loop : tie.InvT-loop
+Inv-loop words₀ p n below₀ r₀ words below r = (r ≤ n) × (n ≤ 17) × (length words₀ ≡ 17) × ((l : ℕ) → bitAt below l ≡ heldBelow l words₀ r) × Raised r p words₀ words
+
+abbrev μ-loop : tie.MeasureT-loop
+μ-loop words₀ p n below₀ r₀ words below r = n - r
+
+loop-holds : tie.Need-loop-holds Inv-loop μ-loop
+loop-holds c = (omega arith, omega arith, omega arith, λ l. below-none l _, raised-none _ _)
+
+loop-again : tie.Need-loop-again Inv-loop μ-loop
+loop-again c = let b : _ = c .before .before .loop in
+    (omega arith, omega arith, omega arith, below-next (b .inv .4), raised-next (b .inv .4) (b .below) (omega arith) (b .inv .3))
+
+returns : tie.Need-returns Inv-loop μ-loop
+returns c = let e : c .before .before .args .n ≡ c .before .loop .r = omega arith in rw e (c .before .loop .inv .4)
+
+pub raise-spec : {M : Type 1} → statement M
+raise-spec =
+    tie.close (tie.spec Inv-loop μ-loop loop-holds (λ c. search needs) (λ c. search needs) (λ c. search needs) (λ c. search needs) (λ c. search needs)
+    (λ c. search needs) loop-again returns)
