@@ -1,5 +1,5 @@
-//! What the gates that are held cost where a sum is opened or a start is set: lines behind as many gates as the history
-//! holds, beside the same lines behind none. The time for the circuit alone is taken off.
+//! What the gates that are held cost where a sum is opened or worked slice by slice, or a start is set: lines behind as
+//! many gates as the history holds, beside the same lines behind none. The time for the circuit alone is taken off.
 
 use crate::lines::Asked;
 use crate::measure::{median, median_seconds};
@@ -11,12 +11,13 @@ use waitfield_checks::random::Random;
 
 const M: usize = 16;
 
-/// Sums opened in a sample, and starts set, which take longer.
+/// Sums opened in a sample, steps of one slice, and starts set, which take longer.
 const SUMS: usize = 1 << 15;
+const STEPS: usize = 1 << 15;
 const STARTS: usize = 1 << 12;
 
 /// Lines with their answers.
-type Answered = Vec<(String, &'static str)>;
+type Answered = Vec<(String, String)>;
 
 /// One kind of lines, behind no gates and behind a full history.
 pub struct Held {
@@ -34,7 +35,7 @@ struct Behind {
 
 impl Behind {
     fn new(gates: &[Gate], start: Strings, lines: &Answered) -> Behind {
-        let asked = |lines: &[(String, &str)]| {
+        let asked = |lines: &[(String, String)]| {
             let mut asked = Asked::default();
             asked.line("(circuit 16)", "(ok)");
             asked.line(&format!("(start {})", spelled(M, start)), "(ok)");
@@ -68,18 +69,25 @@ impl Held {
         }
     }
 
-    /// Sums of all kinds opened and dropped, and starts. A program from before request e of document 02 takes them too.
-    pub fn all() -> [Held; 2] {
+    /// Sums of all kinds opened and dropped, steps of one slice, and starts. A program from before request e of document
+    /// 02 takes them too.
+    pub fn all() -> [Held; 3] {
         let mut random = Random::new(M as u64);
+        let left = |slices: usize| format!("(left {slices})");
+        let ok = || "(ok)".to_string();
         let opened = (0..SUMS).flat_map(|number| {
             let line = opening(number, COLOURS[number % 3], random.strings(M));
-            [(line, "(left 65536)"), ("(drop)".to_string(), "(ok)")]
+            [(line, left(1 << M)), ("(drop)".to_string(), ok())]
         });
         let opened = opened.collect();
-        let starts = (0..STARTS).map(|_| (format!("(start {})", spelled(M, random.strings(M))), "(ok)"));
+        let one = (opening(0, COLOURS[0], random.strings(M)), left(1 << M));
+        let steps = (1..=STEPS).map(|worked| ("(step 1)".to_string(), left((1 << M) - worked)));
+        let steps = [one].into_iter().chain(steps).collect();
+        let starts = (0..STARTS).map(|_| (format!("(start {})", spelled(M, random.strings(M))), ok()));
         let starts = starts.collect();
         [
             Held::new("sums opened and dropped", SUMS, &mut random, opened),
+            Held::new("steps of one slice", STEPS, &mut random, steps),
             Held::new("starts", STARTS, &mut random, starts),
         ]
     }

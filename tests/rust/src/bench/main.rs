@@ -1,7 +1,7 @@
-//! The speed of `session` beside two kernels in Rust, of lines that it takes beside the same lines read alone, and of
-//! sums opened and starts set with a full history beside an empty one, all measured by turns in one run, and beside an
-//! older program if one is named. Prints tables of medians and ratios. Ends with a failure if the three do not give the
-//! same amplitudes, if counts are not those of the checks' elimination, or if a line has another answer than it should
+//! The speed of `session` beside three kernels in Rust, of lines that it takes beside the same lines read alone, and of
+//! sums opened, steps and starts with a full history beside an empty one, all measured by turns in one run, and beside an
+//! older program if one is named. Prints tables of medians and ratios. Ends with a failure if they do not give the same
+//! amplitudes, if counts are not those of the checks' elimination, or if a line has another answer than it should
 //! have.
 
 mod held;
@@ -10,6 +10,7 @@ mod measure;
 mod packed;
 mod plain;
 mod report;
+mod sliced;
 mod table;
 
 use held::Held;
@@ -18,8 +19,10 @@ use measure::{measured, median, peak_memory};
 use packed::Packed;
 use plain::Plain;
 use report::{Figures, Samples, SessionSamples};
+use sliced::Sliced;
 use std::hint::black_box;
 use std::process::ExitCode;
+use std::time::Duration;
 use table::Table;
 use waitfield_checks::elimination::{Polynomial, one_colour, totals};
 use waitfield_checks::gates::{Colour, Gate, Strings, digits, spelled};
@@ -49,6 +52,7 @@ struct Work {
     m: usize,
     gates: Vec<Gate>,
     outputs: Vec<Strings>,
+    sliced: Vec<Sliced>,
     packed: Vec<Packed>,
     plain: Vec<Plain>,
     expected_counts: Vec<i64>,
@@ -67,6 +71,7 @@ impl Work {
         let one = |output: &Strings| one_colour(&polynomial, Colour::Green, Colour::Red, output[2]) as i64;
         Work {
             m,
+            sliced: outputs.iter().map(|output| Sliced::new(&table(output))).collect(),
             packed: outputs.iter().map(|output| Packed::new(&table(output))).collect(),
             plain: outputs.iter().map(|output| Plain::new(table(output))).collect(),
             expected_counts: outputs.iter().map(count).collect(),
@@ -131,24 +136,25 @@ fn in_turn<'a, S>(programs: &'a [Program], samples: &'a mut [S; 2], number: usiz
     turns
 }
 
+/// A kernel's amplitudes, and its time for them.
+fn amplitudes<K>(kernels: &[K], amplitude: impl Fn(&K) -> i64) -> Result<(Duration, Vec<i64>), String> {
+    measured(|| kernels.iter().map(|kernel| amplitude(black_box(kernel))).collect())
+}
+
 /// One round: each kernel once and each program a few times, and their numbers compared.
 fn round(work: &Work, programs: &[Program], samples: &mut Samples, number: usize) -> Result<(), String> {
-    let (time, packed) = measured(|| -> Vec<i64> {
-        let kernels = work.packed.iter();
-        kernels.map(|kernel| black_box(kernel).amplitude()).collect()
-    })?;
+    let (time, sliced) = amplitudes(&work.sliced, Sliced::amplitude)?;
+    samples.sliced.push(time);
+    let (time, packed) = amplitudes(&work.packed, Packed::amplitude)?;
     samples.packed.push(time);
-    let (time, plain) = measured(|| -> Vec<i64> {
-        let kernels = work.plain.iter();
-        kernels.map(|kernel| black_box(kernel).amplitude()).collect()
-    })?;
+    let (time, plain) = amplitudes(&work.plain, Plain::amplitude)?;
     samples.plain.push(time);
-    if packed != plain {
-        return Err(format!("m = {}: the two kernels differ", work.m));
+    if sliced != plain || packed != plain {
+        return Err(format!("m = {}: the kernels differ", work.m));
     }
     for turn in 0..TURNS {
         for (program, samples) in in_turn(programs, &mut samples.programs, number + turn) {
-            session_round(work, program, samples, &packed)?;
+            session_round(work, program, samples, &plain)?;
         }
     }
     Ok(())
@@ -222,7 +228,7 @@ fn lines(programs: &[Program]) -> Result<(), String> {
     Ok(())
 }
 
-/// Sums and starts, with a full history and with none.
+/// Sums, steps and starts, with a full history and with none.
 fn held(programs: &[Program]) -> Result<(), String> {
     let kinds = Held::all();
     let samples = by_turns(&kinds, programs, Held::round)?;

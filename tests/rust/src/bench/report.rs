@@ -7,6 +7,7 @@ use std::time::Duration;
 /// Samples of one m, each of the same number of slices.
 #[derive(Default)]
 pub struct Samples {
+    pub sliced: Vec<Duration>,
     pub packed: Vec<Duration>,
     pub plain: Vec<Duration>,
     /// Those of `session`, and of an older program.
@@ -25,6 +26,7 @@ pub struct SessionSamples {
 /// Medians for one m, in nanoseconds a slice.
 pub struct Figures {
     m: usize,
+    sliced: f64,
     packed: f64,
     plain: f64,
     session: Option<Session>,
@@ -60,6 +62,7 @@ impl Figures {
         let [session, older] = samples.programs.map(|samples| Session::of(samples, a_slice));
         Figures {
             m,
+            sliced: a_slice(median(samples.sliced)),
             packed: a_slice(median(samples.packed)),
             plain: a_slice(median(samples.plain)),
             session,
@@ -67,17 +70,18 @@ impl Figures {
         }
     }
 
-    /// Session / packed, session / plain, readout / amplitude, one colour / amplitude.
-    fn ratios(&self) -> [Option<f64>; 4] {
+    /// Session / sliced, session / packed, session / plain, readout / amplitude, one colour / amplitude.
+    fn ratios(&self) -> [Option<f64>; 5] {
         match &self.session {
             Some(Session { amplitude, count, one }) => [
+                amplitude / self.sliced,
                 amplitude / self.packed,
                 amplitude / self.plain,
                 count / amplitude,
                 one / amplitude,
             ]
             .map(Some),
-            None => [None; 4],
+            None => [None; 5],
         }
     }
 
@@ -92,13 +96,13 @@ impl Figures {
         Some(ratios.map(Some))
     }
 
-    fn times(&self) -> [Option<f64>; 3] {
+    fn times(&self) -> [Option<f64>; 4] {
         let session = self.session.as_ref().map(|session| session.amplitude);
-        [Some(self.packed), Some(self.plain), session]
+        [Some(self.sliced), Some(self.packed), Some(self.plain), session]
     }
 
     /// Milliseconds for all slices of an amplitude.
-    fn an_amplitude(&self) -> [Option<f64>; 3] {
+    fn an_amplitude(&self) -> [Option<f64>; 4] {
         let slices = (1u64 << self.m) as f64;
         self.times().map(|time| time.map(|time| time * slices / 1e6))
     }
@@ -112,20 +116,21 @@ fn cells<const N: usize>(values: [Option<f64>; N], places: usize) -> String {
 
 pub fn print(all: &[Figures]) {
     println!("Nanoseconds a slice, and ratios.\n");
-    let ratios = "session / packed | session / plain | readout / amplitude | one colour / amplitude";
-    println!("| m | packed Rust | plain Rust | session | {ratios} |");
-    println!("|---|---|---|---|---|---|---|---|");
+    let ratios = "session / sliced | session / packed | session / plain | readout / amplitude | one colour / amplitude";
+    println!("| m | sliced Rust | packed Rust | plain Rust | session | {ratios} |");
+    println!("|---|---|---|---|---|---|---|---|---|---|");
     for figures in all {
         let (times, ratios) = (cells(figures.times(), 1), cells(figures.ratios(), 2));
         println!("| {} | {times} | {ratios} |", figures.m);
     }
     println!("\nMilliseconds an amplitude, and each beside that of two positions fewer.\n");
-    println!("| m | packed Rust | plain Rust | session | packed, growth | plain, growth | session, growth |");
-    println!("|---|---|---|---|---|---|---|");
-    let mut before = [None; 3];
+    let kinds = ["sliced Rust", "packed Rust", "plain Rust", "session"];
+    println!("| m | {} | {}, growth |", kinds.join(" | "), kinds.join(", growth | "));
+    println!("|---|---|---|---|---|---|---|---|---|");
+    let mut before = [None; 4];
     for figures in all {
         let now = figures.an_amplitude();
-        let growth = [0, 1, 2].map(|k| now[k].zip(before[k]).map(|(now, before): (f64, f64)| now / before));
+        let growth = [0, 1, 2, 3].map(|k| now[k].zip(before[k]).map(|(now, before): (f64, f64)| now / before));
         println!("| {} | {} | {} |", figures.m, cells(now, 3), cells(growth, 2));
         before = now;
     }

@@ -1,4 +1,4 @@
-//! What both kernels work on: the rows of a slice, and what changes from one slice to the next.
+//! What the kernels work on: the rows of a slice, and what changes from one slice to the next.
 
 use waitfield_checks::elimination::Polynomial;
 use waitfield_checks::gates::{Colour, Strings};
@@ -13,6 +13,8 @@ pub struct Table {
     pub first: Rows,
     /// What is added to the rows where the lowest digits up to this one change.
     pub changes: Vec<Rows>,
+    /// What each index of the sliced colour adds, from 0 on.
+    pub indices: Vec<Rows>,
 }
 
 pub fn added(a: Rows, b: &Rows) -> Rows {
@@ -21,14 +23,22 @@ pub fn added(a: Rows, b: &Rows) -> Rows {
 
 impl Table {
     pub fn of(m: usize, polynomial: &Polynomial, sliced: Colour, output: Strings) -> Table {
+        let indices: Vec<Rows> = (0..=m)
+            .map(|index| rows(m, polynomial, sliced, output, index))
+            .collect();
         let mut changes = Vec::new();
         let mut sum = [0; 17];
-        for position in (1..=m).rev() {
-            sum = added(sum, &rows(m, polynomial, sliced, output, position));
+        for rows in indices[1..].iter().rev() {
+            sum = added(sum, rows);
             changes.push(sum);
         }
-        let first = rows(m, polynomial, sliced, output, 0);
-        Table { m, first, changes }
+        let first = indices[0];
+        Table {
+            m,
+            first,
+            changes,
+            indices,
+        }
     }
 
     /// The digits that change on the way to the slice of this number.

@@ -18,6 +18,7 @@ mod own;
 mod readouts;
 mod refusals;
 mod starts;
+mod steps;
 mod streams;
 mod z_gates;
 
@@ -91,6 +92,7 @@ groups! {
     "Z gates": z_gates,
     "middle circuits": middle,
     "large circuits": large,
+    "steps and blocks": steps,
     "refusals": refusals,
     "layers": layers,
     "history": history,
