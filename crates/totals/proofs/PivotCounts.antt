@@ -1,8 +1,8 @@
 -- The slices of each rank, pivot by pivot: a slice with a pivot in row i goes up by one word, and the rank is the number of its pivots.
-use mathlib.Core.Path.{_≡_, refl, sym, _∙_, ap}
+use mathlib.Core.Path.{_≡_, refl, sym, _∙_}
 use mathlib.Core.Bool.{Bool, true, false, cond, _&&_, and-false, and-true}
 use mathlib.Core.List.{List, _∷_}
-use Prim.Native.Nat.{ℕ, zero, suc, _+_, _≤_, _<_}
+use Prim.Native.Nat.{ℕ, zero, suc, _+_, _<_}
 use native.Mathlib.Numerals.{add-one}
 use native.Mathlib.Omega.{arith}
 use lib.Bits.{bitAnd, bitXor}
@@ -25,39 +25,21 @@ use Rattle.totals.specs.Weights.{heldBelow, Raised, Ranked}
 
 -- x where p is not, y where it is.
 bitAt-choose : (x p y l : ℕ) → bitAt (bitXor x (bitAnd p (bitXor x y))) l ≡ cond (bitAt p l) (bitAt y l) (bitAt x l)
-bitAt-choose x p y l = bitAt-add x p (bitXor x y) l ∙ ap (λ b. bitAt x l ⊕ (bitAt p l && b)) (bitAt-xor x y l) ∙ go (bitAt p l) (bitAt x l) (bitAt y l)
+bitAt-choose x p y l = bitAt-add x p (bitXor x y) l ∙ rw (bitAt-xor x y l) (go (bitAt p l) (bitAt x l) (bitAt y l))
   where
     go : (p x y : Bool) → x ⊕ (p && (x ⊕ y)) ≡ cond p y x
-    go true x y = sym (⊕-assoc x x y) ∙ ap (λ b. b ⊕ y) (⊕-self x) ∙ false-⊕ y
+    go true x y = rw (← ⊕-assoc x x y, ⊕-self x) (false-⊕ y)
     go false x y = ⊕-false x
 
-pub below-none : (l : ℕ) (words : List ℕ) → bitAt 0 l ≡ heldBelow l words 0
-unfolding heldBelow
-below-none l words = bitAt-zero l
-
-pub raised-none : (p : ℕ) (words : List ℕ) → Raised 0 p words words
-raised-none p words = record { size = refl; each = λ l r h. absurd (omega arith); rest = λ r h. refl }
-
-module _ {r p : ℕ} {before after : List ℕ} (a : Raised r p before after) where
-  same : (l : ℕ) → held l after r ≡ held l before r
-  same l = ap (λ (x : ℕ). bitAt x l) (a .rest r (λ h. omega arith))
-
-  pub below-next : (l : ℕ) → held l after r ≡ heldBelow l before (r + 1)
-  unfolding heldBelow
-  below-next l = rw add-one (same l)
-
-  pub raised-next : (below : ℕ) → r < length before → ((l : ℕ) → bitAt below l ≡ heldBelow l before r)
-      → Raised (r + 1) p before (set after r (bitXor (getD after r 0) (bitAnd p (bitXor (getD after r 0) below))))
-  raised-next below h e = record {
-    size = length-set after r v ∙ a .size;
-    each = λ l. below-more (λ k. held l (set after r v) k ≡ cond (bitAt p l) (heldBelow l before k) (held l before k)) r
-        (λ k g. ap (λ (x : ℕ). bitAt x l) (getD-set-other after r k v 0 (λ q. omega arith)) ∙ a .each l k g)
-        (ap (λ (x : ℕ). bitAt x l) (getD-set-same after r v 0 (omega (arith, a .size))) ∙ bitAt-choose (getD after r 0) p below l ∙ rw (e l, same l));
-    rest = λ k g. getD-set-other after r k v 0 (λ q. g (omega arith)) ∙ a .rest k (λ q. g (omega arith));
-  }
-    where
-      v : ℕ
-      v = bitXor (getD after r 0) (bitAnd p (bitXor (getD after r 0) below))
+pub raised-next : {r p : ℕ} {before after : List ℕ} → Raised r p before after → (below : ℕ) → r < length before
+    → ((l : ℕ) → bitAt below l ≡ heldBelow l before r)
+    → Raised (r + 1) p before (set after r (bitXor (getD after r 0) (bitAnd p (bitXor (getD after r 0) below))))
+raised-next {r} {p} {before} {after} a below h e = record {
+  size = length-set after r _ ∙ a .size;
+  each = λ l. below-more _ r (λ k g. rw (getD-set-other after r k _ 0 (λ q. omega arith)) (a .each l k g))
+      (rw (getD-set-same after r _ 0 (omega (arith, a .size)), a .rest r (λ h. omega arith)) (bitAt-choose (getD before r 0) p below l ∙ rw (e l)));
+  rest = λ k g. getD-set-other after r k _ 0 (λ q. g (omega arith)) ∙ a .rest k (λ q. g (omega arith));
+}
 
 -- ---- after the first i pivots
 
@@ -67,30 +49,26 @@ ranked-none pivots inside = record { size = refl; each = go }
   where
     go : (l r : ℕ) → r < 17 → held l (inside ∷ replicate 16 0) r ≡ bitAt inside l && eqb 0 r
     go l zero h = sym (and-true (bitAt inside l))
-    go l (suc r) h =
-        ap (λ (x : ℕ). bitAt x l) (getD-replicate 16 r 0 0 (omega arith)) ∙ bitAt-zero l ∙ sym (rw (eqb·zero-suc r) (and-false (bitAt inside l)))
+    go l (suc r) h = rw (getD-replicate {A = ℕ} 16 r 0 0 (omega arith), bitAt-zero l, eqb·zero-suc r, and-false (bitAt inside l))
 
 -- Only the words up to i had bits before, so those above i + 1 stay without.
 pub ranked-next : {i : ℕ} {pivots : List ℕ} {inside : ℕ} {before after : List ℕ} → Ranked i pivots inside before → Raised (i + 2) (getD pivots i 0) before after
     → Ranked (i + 1) pivots inside after
-unfolding countOf heldBelow
-ranked-next {i} {pivots} {inside} {before} {after} a w = record { size = w .size ∙ a .size; each = λ l r h. rw add-one (go l r h (ltb r (i + 2)) refl) }
+unfolding heldBelow
+ranked-next {i} {pivots} {inside} {before} {after} a w = record { size = w .size ∙ a .size; each = λ l r h. go l r h (ltb r (i + 2)) refl }
   where
-    count : ℕ → ℕ
-    count l = countOf i (λ k. held l pivots k)
+    count : ℕ → ℕ → ℕ
+    count n l = countOf n (λ k. held l pivots k)
 
-    up : (l : ℕ) (b : Bool) (r : ℕ) → r < 17 → cond b (heldBelow l before r) (held l before r) ≡ bitAt inside l && eqb (cond b (suc (count l)) (count l)) r
-    up l true zero h = sym (rw (eqb·suc-zero (count l)) (and-false (bitAt inside l)))
-    up l true (suc r) h = rw (eqb·suc-suc (count l) r) (a .each l r (omega arith))
+    up : (l : ℕ) (b : Bool) (r : ℕ) → r < 17 → cond b (heldBelow l before r) (held l before r) ≡ bitAt inside l && eqb (cond b (suc (count i l)) (count i l)) r
+    up l true zero h = rw (eqb·suc-zero (count i l)) (sym (and-false (bitAt inside l)))
+    up l true (suc r) h = rw (eqb·suc-suc (count i l) r) (a .each l r (omega arith))
     up l false r h = a .each l r h
 
-    high : (l : ℕ) (b : Bool) (r : ℕ) → i + 2 ≤ r → countOf i (λ k. held l pivots k) ≤ i → eqb (count l) r ≡ eqb (cond b (suc (count l)) (count l)) r
-    high l true r h k = ne-eqb (count l) r (λ z. omega arith) ∙ sym (ne-eqb (suc (count l)) r (λ z. omega arith))
-    high l false r h k = refl
+    above : (n l r : ℕ) → n < r → eqb (count n l) r ≡ false
+    above n l r h = ne-eqb (count n l) r (λ z. omega (arith, count-le n (λ k. held l pivots k)))
 
-    go : (l r : ℕ) → r < 17 → (b : Bool) → ltb r (i + 2) ≡ b → held l after r ≡ bitAt inside l && eqb (countOf (suc i) (λ k. held l pivots k)) r
-    go l r h true q = w .each l r (ltb-true r (i + 2) q) ∙ up l (held l pivots i) r h
-    go l r h false q =
-        let n : i + 2 ≤ r = ltb-false r (i + 2) q in
-        ap (λ (x : ℕ). bitAt x l) (w .rest r (λ k. omega arith)) ∙ a .each l r h
-        ∙ ap (λ b. bitAt inside l && b) (high l (held l pivots i) r n (count-le i (λ k. held l pivots k)))
+    go : (l r : ℕ) → r < 17 → (b : Bool) → ltb r (i + 2) ≡ b → held l after r ≡ bitAt inside l && eqb (count (i + 1) l) r
+    go l r h true q = rw add-one (w .each l r (ltb-true r (i + 2) q) ∙ unfold countOf in up l (held l pivots i) r h)
+    go l r h false q = let n : _ = ltb-false r (i + 2) q in
+        rw (w .rest r (λ k. omega arith), a .each l r h, above i l r (omega arith), above (i + 1) l r (omega arith))

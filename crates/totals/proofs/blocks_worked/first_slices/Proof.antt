@@ -1,9 +1,7 @@
 -- Bit l of 2^k − 1 says whether l is below k.
-use mathlib.Core.Path.{sym, _∙_, ap}
-use Prim.Native.Nat.{ℕ, _-_}
+use mathlib.Core.Path.{sym, _∙_}
 use native.Mathlib.Omega.{arith}
 use borrow.Author.Tests.{lt-ltb}
-use Rattle.gf2.specs.Words.{bitAt}
 use Rattle.gf2.proofs.WordBits.{one-shifted}
 use Rattle.totals.proofs.Windows.{bitAt-ones}
 use lib.Pow.{pow-pos}
@@ -18,7 +16,7 @@ sub-result : tie.Need-sub-result
 sub-result c = omega (arith, one-shifted 64 (c .before .args .k) (omega arith), pow-pos (c .before .args .k))
 
 returns-2 : tie.Need-returns-2
-returns-2 c l h = ap (λ (x : ℕ). bitAt (x - 1) l) (one-shifted 64 (c .before .args .k) (omega arith)) ∙ bitAt-ones (c .before .args .k) l
+returns-2 c l h = rw (one-shifted 64 (c .before .args .k) (omega arith)) (bitAt-ones (c .before .args .k) l)
 
 pub first-slices-spec : {M : Type 1} → statement M
 first-slices-spec = tie.close (tie.spec returns (λ c. search needs) sub-result returns-2)

@@ -1,13 +1,11 @@
 -- The ones of a word are counted bit by bit.
-use lib.Bits.{bitAnd, bitXor}
-use lib.Count.{ones-le}
 use native.Mathlib.Omega.{arith}
-use Rattle.totals.proofs.Counting.{left-ones, small}
+use Rattle.totals.proofs.Counting.{left-ones, left-le}
 use Rattle.totals.proofs.ranks.left.Statement.{statement}
 use Rattle.totals.proofs.ranks.left.Tie as tie
 
 cast-result : tie.Need-cast-result
-cast-result c = let a : _ = c .args in omega (arith, ones-le 64 (bitXor (a .w) (bitAnd (a .w) (a .mask))) (small (a .w) (a .mask) (omega arith)))
+cast-result c = omega (arith, left-ones (c .args .w) (c .args .mask) (omega arith), left-le (c .args .w) (c .args .mask))
 
 returns : tie.Need-returns
 returns c = left-ones _ _ (omega arith)

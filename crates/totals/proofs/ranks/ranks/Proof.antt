@@ -9,19 +9,19 @@ use Rattle.totals.proofs.ranks.ranks.Statement.{statement}
 use Rattle.totals.proofs.ranks.ranks.Tie as tie
 
 abbrev Inv-loop : tie.InvT-loop
-Inv-loop pivots m inside words₀ i₀ words i = (i ≤ m) × (m ≤ 16) × Ranked i pivots inside words
+Inv-loop pivots m inside words₀ i₀ words i = (i ≤ m) × Ranked i pivots inside words
 
 abbrev μ-loop : tie.MeasureT-loop
 μ-loop pivots m inside words₀ i₀ words i = m - i
 
 loop-holds : tie.Need-loop-holds Inv-loop μ-loop
-loop-holds c = (omega arith, omega arith, ranked-none _ _)
+loop-holds c = (omega arith, ranked-none _ _)
 
 loop-again : tie.Need-loop-again Inv-loop μ-loop
-loop-again c = (omega arith, omega arith, ranked-next (c .before .before .before .before .loop .inv .2) (c .raise .ensures))
+loop-again c = (omega arith, ranked-next (c .before .before .before .before .loop .inv .1) (c .raise .ensures))
 
 returns : tie.Need-returns Inv-loop μ-loop
-returns c = let e : c .before .before .args .m ≡ c .before .loop .i = omega arith in rw e (c .before .loop .inv .2)
+returns c = let e : c .before .before .args .m ≡ c .before .loop .i = omega arith in rw e (c .before .loop .inv .1)
 
 pub ranks-spec : {M : Type 1} → statement M
 ranks-spec =

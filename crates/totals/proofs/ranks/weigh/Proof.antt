@@ -1,9 +1,10 @@
 -- After r turns the slices of the ranks below r are weighed.
-use mathlib.Core.Path.{_≡_, _∙_, ap}
-use Prim.Native.Nat.{ℕ, _+_, _*_, _-_, _≤_}
+use mathlib.Core.Path.{_≡_, refl}
+use Prim.Native.Nat.{_+_, _*_, _-_, _≤_}
 use native.Mathlib.Omega.{arith}
+use Rattle.slices.specs.Totals.{tallyBelow}
 use Rattle.totals.specs.Weights.{weighed}
-use Rattle.totals.proofs.Counting.{exponent-le, weighed-none, weighed-fits, weighed-next}
+use Rattle.totals.proofs.Counting.{exponent-le, weighed-next}
 use borrow.Author.Needs.{needs}
 use Rattle.totals.proofs.ranks.weigh.Statement.{statement}
 use Rattle.totals.proofs.ranks.weigh.Tie as tie
@@ -15,33 +16,23 @@ abbrev μ-loop : tie.MeasureT-loop
 μ-loop ranks mask m least fall t₀ r₀ t r = m + 1 - r
 
 loop-holds : tie.Need-loop-holds Inv-loop μ-loop
-loop-holds c =
-    let a : _ = c .args in
-    (omega arith, exponent-le (a .m) 0 (a .least) (a .fall) (c .pre .3), weighed-none (a .m) (a .ranks .now) (a .mask) (a .least) (a .fall))
+unfolding weighed tallyBelow
+loop-holds c = (omega arith, exponent-le _ 0 _ _ (c .pre .3), refl)
 
 add-t-2 : tie.Need-add-t-2 Inv-loop μ-loop
 add-t-2 c =
-    let b : _ = c .before .before .before .loop in
-    let s : _ = c .before .before .before .before in
-    let a : _ = s .args in
-    omega (arith, weighed-fits (a .m) (a .ranks .now) (a .mask) (a .least) (a .fall) (s .pre .3) (b .r) (b .t) _ (b .inv .2) (c .left .ensures) (omega arith))
+    let l : _ = c .before .before .before in
+    let n : _ = weighed-next _ _ _ _ _ (l .before .pre .3) _ _ _ (l .loop .inv .2) (c .left .ensures) in
+    omega arith
 
 loop-again : tie.Need-loop-again Inv-loop μ-loop
 loop-again c =
-    let b : _ = c .before .before .before .loop in
-    let s : _ = c .before .before .before .before in
-    let a : _ = s .args in (
-      omega arith,
-      exponent-le (a .m) (b .r + 1) (a .least) (a .fall) (s .pre .3),
-      weighed-next (a .m) (a .ranks .now) (a .mask) (a .least) (a .fall) (s .pre .3) (b .r) (b .t) _ (b .inv .2) (c .left .ensures),
-    )
+    let l : _ = c .before .before .before in
+    let h : _ = l .before .pre .3 in
+    (omega arith, exponent-le _ (l .loop .r + 1) _ _ h, weighed-next _ _ _ _ _ h _ _ _ (l .loop .inv .2) (c .left .ensures) .0)
 
 returns : tie.Need-returns Inv-loop μ-loop
-returns c =
-    let b : _ = c .before .loop in
-    let a : _ = c .before .before .args in
-    let e : b .r ≡ a .m + 1 = omega arith in
-    b .inv .2 ∙ ap (λ (n : ℕ). weighed n (a .m) (a .ranks .now) (a .mask) (a .least) (a .fall)) e
+returns c = let e : c .before .before .args .m + 1 ≡ c .before .loop .r = omega arith in rw e (c .before .loop .inv .2)
 
 pub weigh-spec : {M : Type 1} → statement M
 weigh-spec =
