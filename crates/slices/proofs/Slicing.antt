@@ -11,7 +11,7 @@ use Rattle.gf2.specs.Sums.{sum, parity, sgn}
 use Rattle.gf2.proofs.Bits.{⊕-assoc, ⊕-comm, ⊕-left-comm, false-⊕, xor-ac, and-ac, sgn-⊕}
 use Rattle.gf2.proofs.Strings.{dot-⊞, dot-comm, length-⊞}
 use Rattle.gf2.proofs.Sums.{sum-cong, sum-ext, sum-mul}
-use Rattle.gf2.proofs.Parities.{parity-ext, parity-and, parity-swap}
+use Rattle.gf2.proofs.Parities.{parity-cong, parity-ext, parity-and, parity-swap}
 use Rattle.circuit.specs.declared.Colour.{Colour}
 use Rattle.circuit.specs.declared.Colour.the-variants.{Red, Blue, Green}
 use Rattle.circuit.specs.Colours.{the, first, second, join}
@@ -126,6 +126,20 @@ value-by-coefficients C m f z u v = value-join C m f z u v
         ∙ parity-ext n (λ j. parity n (λ k. cell i j k)) (λ j. at i u && (at j v && coefficient m f C z i j))
         (λ j. parity-and n (at i u) (λ k. at j v && (at k z && f (join C k i j))) ∙ ap (λ w. at i u && w) (parity-and n (at j v) (λ k. at k z && f (join C k i j))))
         ∙ parity-and n (at i u) (λ j. at j v && coefficient m f C z i j)
+
+-- Two polynomials, each sliced on a colour, that have the same entries: Γ is by those at positions of both other colours, the inner sum by all.
+module _ (C D : Colour) (m : ℕ) (f g : Polynomial) (z : BitString) where
+  pub gamma-cong : ((i j : ℕ) → i < m → j < m → coefficient m f C z (suc i) (suc j) ≡ coefficient m g D z (suc i) (suc j))
+      → gamma m f C z ≡ gamma m g D z
+  unfolding gamma
+  gamma-cong h = along-cong m _ _ (λ i k. along-cong m _ _ (λ j l. h i j k l))
+
+  pub inner-cong : ((i j : ℕ) → i ≤ m → j ≤ m → coefficient m f C z i j ≡ coefficient m g D z i j) → (X Y : BitString)
+      → innerSum m f C X Y z ≡ innerSum m g D X Y z
+  unfolding innerSum
+  inner-cong h X Y = sum-ext m _ _ (λ u. sum-ext m _ _ (λ v. ap (λ w. sgn (w ⊕ (dot X u ⊕ dot Y v))) (value-by-coefficients C m f z u v
+      ∙ parity-cong (suc m) _ _ (λ i k. ap (λ w. at i u && w) (parity-cong (suc m) _ _ (λ j l. ap (λ w. at j v && w) (h i j (omega arith) (omega arith)))))
+      ∙ sym (value-by-coefficients D m g z u v))))
 
 -- the value by Γ and the vectors of the polynomial
 value-by-gamma : (C : Colour) (m : ℕ) (f : Polynomial) (z u v : BitString) → length u ≡ m → length v ≡ m

@@ -19,7 +19,7 @@ use Rattle.slices.specs.Totals.{isNought}
 use Rattle.slices.proofs.ByTurns.{slice-rank, slice-part}
 use Rattle.blocks.specs.Entries.{Lows, Bare, highDigits, Filled, Sides}
 use Rattle.blocks.proofs.BlockRows.{block-row, block-last, block-side, block-corner}
-use Rattle.totals.specs.declared.blocks_worked.Sums.{Sums}
+use Rattle.totals.specs.declared.steps.Sums.{Sums}
 use Rattle.totals.specs.Weights.{Ranked, weighed, isPositive, weightAt, plusAt, BlockWorked}
 use Rattle.totals.proofs.Counting.{weighed-is}
 use Rattle.totals.proofs.SignedWeights.{inner, q, signed-sum}

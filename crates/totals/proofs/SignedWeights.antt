@@ -25,7 +25,7 @@ use Rattle.slices.specs.Slices.{gamma, innerSum}
 use Rattle.slices.specs.Rank.{rank}
 use Rattle.slices.specs.Totals.{isNought, signedPart, amplitudeOver, tallyBelow}
 use Rattle.slices.proofs.Rank.{IsPower, rank-le, innerSum-size}
-use Rattle.totals.specs.declared.blocks_worked.Sums.{Sums}
+use Rattle.totals.specs.declared.steps.Sums.{Sums}
 use Rattle.totals.specs.Answers.{noOutput, shareAt, sharesOver}
 use Rattle.totals.specs.Weights.{isPositive, weightAt, plusAt, Walked}
 use Rattle.totals.proofs.SliceTotals.{abs-fits}

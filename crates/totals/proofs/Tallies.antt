@@ -1,11 +1,10 @@
 -- Numbers added up below a bound.
 use mathlib.Core.Path.{_≡_, refl, sym, _∙_, ap, ap₂}
-use mathlib.Core.Bool.{Bool, true, false, cond}
+use mathlib.Core.Bool.{cond}
 use Prim.Native.Nat.{ℕ, zero, suc, _+_, _*_, _≤_, _<_}
-use native.Mathlib.Nat.{add-zero, zero-add, zero-mul, add-mul}
+use native.Mathlib.Nat.{zero-mul, add-mul}
 use native.Mathlib.Omega.{arith}
-use lib.Dec.{eqb}
-use borrow.Author.Tests.{eqb-true, eqb-false, ne-eqb}
+use lib.Dec.{eqb, eqb·zero-suc, eqb·suc-zero, eqb·suc-suc}
 use Rattle.slices.specs.Totals.{tallyBelow}
 
 pub tallyBelow-cong : (n : ℕ) (f g : ℕ → ℕ) → ((z : ℕ) → z < n → f z ≡ g z) → tallyBelow n f ≡ tallyBelow n g
@@ -31,8 +30,7 @@ tally-both (suc n) f g = ap (λ (x : ℕ). x + (f n + g n)) (tally-both n f g) �
 pub tally-swap : (n k : ℕ) (f : ℕ → ℕ → ℕ) → tallyBelow n (λ r. tallyBelow k (λ l. f r l)) ≡ tallyBelow k (λ l. tallyBelow n (λ r. f r l))
 unfolding tallyBelow
 tally-swap zero k f = sym (tally-none k (λ l. 0) (λ z h. refl))
-tally-swap (suc n) k f =
-    ap (λ (x : ℕ). x + tallyBelow k (λ l. f n l)) (tally-swap n k f) ∙ sym (tally-both k (λ l. tallyBelow n (λ r. f r l)) (λ l. f n l))
+tally-swap (suc n) k f = rw (tally-swap n k f) (sym (tally-both k _ _))
 
 pub tally-mul : (n w : ℕ) (f : ℕ → ℕ) → tallyBelow n f * w ≡ tallyBelow n (λ z. f z * w)
 unfolding tallyBelow
@@ -41,20 +39,9 @@ tally-mul (suc n) w f = add-mul (tallyBelow n f) (f n) w ∙ ap (λ (x : ℕ). x
 
 -- One index alone.
 pub tally-at : (n q : ℕ) (f : ℕ → ℕ) → q < n → tallyBelow n (λ r. cond (eqb q r) (f r) 0) ≡ f q
-unfolding tallyBelow
 tally-at zero q f h = absurd (omega arith)
-tally-at (suc n) q f h = go (tally-at n q f) (eqb q n) refl
-  where
-    none : q ≡ n → tallyBelow n (λ r. cond (eqb q r) (f r) 0) ≡ 0
-    none e = tally-none n (λ r. cond (eqb q r) (f r) 0) (λ r k. ap (λ b. cond b (f r) 0) (ne-eqb q r (λ z. omega arith)))
-
-    go : (q < n → tallyBelow n (λ r. cond (eqb q r) (f r) 0) ≡ f q) → (b : Bool) → eqb q n ≡ b
-        → tallyBelow n (λ r. cond (eqb q r) (f r) 0) + cond (eqb q n) (f n) 0 ≡ f q
-    go ih true e = ap₂ (λ (x : ℕ) b. x + cond b (f n) 0) (none (eqb-true q n e)) e ∙ zero-add (f n) ∙ ap f (sym (eqb-true q n e))
-    go ih false e = ap₂ (λ (x : ℕ) b. x + cond b (f n) 0) (ih (less (eqb-false q n e))) e ∙ add-zero (f q)
-      where
-        less : (q ≡ n → ⊥) → q < n
-        less z = omega arith
+tally-at (suc n) zero f h = simp (tally-front, eqb·zero-suc) (omega (arith, tally-none n (λ z. 0) (λ z k. refl)))
+tally-at (suc n) (suc q) f h = simp (tally-front, eqb·suc-zero, eqb·suc-suc) (omega (arith, tally-at n q (λ z. f (suc z)) (omega arith)))
 
 pub tally-le : (n b : ℕ) (f : ℕ → ℕ) → ((z : ℕ) → f z ≤ b) → tallyBelow n f ≤ n * b
 unfolding tallyBelow

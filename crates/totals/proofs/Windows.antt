@@ -13,7 +13,7 @@ use Rattle.gf2.specs.Words.{bitAt, wordOf}
 use Rattle.gf2.proofs.WordBits.{bitAt-wordOf}
 use Rattle.polynomial.specs.Words.{heldBy}
 use Rattle.slices.specs.Totals.{tallyBelow}
-use Rattle.totals.specs.declared.blocks_worked.Sums.{Sums}
+use Rattle.totals.specs.declared.steps.Sums.{Sums}
 use Rattle.totals.specs.Weights.{isInside, weightAt, plusAt, BlockWorked, Walked}
 
 -- ---- masks

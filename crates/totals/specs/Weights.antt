@@ -16,7 +16,7 @@ use Rattle.elimination.specs.Held.{held}
 use Rattle.slices.specs.Slices.{gamma, innerSum}
 use Rattle.slices.specs.Rank.{rank}
 use Rattle.slices.specs.Totals.{isNought, tallyBelow}
-use Rattle.totals.specs.declared.blocks_worked.Sums.{Sums}
+use Rattle.totals.specs.declared.steps.Sums.{Sums}
 
 -- ---- in words
 

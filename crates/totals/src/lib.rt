@@ -10,12 +10,12 @@ ghost use Rattle.polynomial.specs.Words.{heldBy};
 ghost use Rattle.slices.specs.Totals.{amplitudeOver, readoutOver, areSlices, moderate, moderateCount};
 ghost use Rattle.totals.specs.Answers.{noOutput, sliceAnswer, nought, sharesOver};
 use crate::answer::Slice;
-use crate::blocks_worked::walk;
+use crate::steps::walk;
 use polynomial::WORDS;
 
 pub mod answer;
-pub mod blocks_worked;
-pub mod ranks;
+mod ranks;
+mod steps;
 
 // The least and the most that an amplitude's total may be to have slices added. A sum's is at most 2^48 from 0.
 const LEAST: i64 = -(1 << 60);

@@ -2,8 +2,8 @@
 use Rattle.gf2.proofs.WordBits.{bitAt-xor}
 use Rattle.totals.proofs.Windows.{bit-inside}
 use borrow.Author.Needs.{needs}
-use Rattle.totals.proofs.blocks_worked.inside.Statement.{statement}
-use Rattle.totals.proofs.blocks_worked.inside.Tie as tie
+use Rattle.totals.proofs.steps.inside.Statement.{statement}
+use Rattle.totals.proofs.steps.inside.Tie as tie
 
 returns : tie.Need-returns
 returns c l h =

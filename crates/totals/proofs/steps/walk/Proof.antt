@@ -12,8 +12,8 @@ use Rattle.totals.proofs.SignedWeights.{walked-small}
 use Rattle.totals.proofs.Windows.{walked-next}
 use Rattle.totals.proofs.KeptEntries.{walked-same}
 use borrow.Author.Needs.{needs}
-use Rattle.totals.proofs.blocks_worked.walk.Statement.{statement}
-use Rattle.totals.proofs.blocks_worked.walk.Tie as tie
+use Rattle.totals.proofs.steps.walk.Statement.{statement}
+use Rattle.totals.proofs.steps.walk.Tie as tie
 
 abbrev Inv-loop : tie.InvT-loop
 Inv-loop table m from count least fall kept low end rows₀ factors₀ picks₀ all₀ plus₀ b₀ rows factors picks all plus b =

@@ -4,8 +4,8 @@ use native.Mathlib.Nat.{min-eq-left}
 use native.Mathlib.Omega.{arith}
 use Rattle.totals.proofs.BlockWeights.{block-worked}
 use borrow.Author.Needs.{needs}
-use Rattle.totals.proofs.blocks_worked.block.Statement.{statement}
-use Rattle.totals.proofs.blocks_worked.block.Tie as tie
+use Rattle.totals.proofs.steps.block.Statement.{statement}
+use Rattle.totals.proofs.steps.block.Tie as tie
 
 returns : tie.Need-returns
 returns c =

@@ -6,8 +6,8 @@ use Rattle.gf2.proofs.WordBits.{one-shifted}
 use Rattle.totals.proofs.Windows.{bitAt-ones}
 use lib.Pow.{pow-pos}
 use borrow.Author.Needs.{needs}
-use Rattle.totals.proofs.blocks_worked.first_slices.Statement.{statement}
-use Rattle.totals.proofs.blocks_worked.first_slices.Tie as tie
+use Rattle.totals.proofs.steps.first_slices.Statement.{statement}
+use Rattle.totals.proofs.steps.first_slices.Tie as tie
 
 returns : tie.Need-returns
 returns c l h = bitAt-ones 64 l ∙ lt-ltb l 64 h ∙ sym (lt-ltb l (c .before .args .k) (omega arith))
