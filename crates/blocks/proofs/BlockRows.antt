@@ -1,46 +1,33 @@
 -- The rows of a block's systems and the bits beside them are the entries of its slices; an entry past m is that of a word of zeros.
-use mathlib.Core.Path.{_≡_, refl, sym, _∙_, ap, ap₂}
-use mathlib.Core.Bool.{Bool, true, false, cond, _&&_, and-false}
+use mathlib.Core.Path.{_≡_, refl, _∙_, ap}
+use mathlib.Core.Bool.{Bool, cond, _&&_, and-false}
 use mathlib.Core.List.{List}
 use Prim.Native.Nat.{ℕ, suc, _+_, _*_, _/_, _%_, _≤_, _<_}
 use native.Mathlib.Omega.{arith}
 use lib.Dec.{leb, ltb}
 use lib.ListN.{length, getD, List·getD-eq-default}
-use borrow.Author.Tests.{ltb-true, ltb-false, le-leb, lt-leb}
+use borrow.Author.Tests.{le-leb, lt-leb}
 use Rattle.gf2.specs.Strings.{BitString}
-use Rattle.gf2.specs.Sums.{parity}
-use Rattle.gf2.specs.Digits.{highFirst}
-use Rattle.gf2.specs.Words.{bitAt, tabulate}
+use Rattle.gf2.specs.Words.{tabulate}
 use Rattle.gf2.proofs.Tables.{length-tabulate, getD-tabulate, tabulate-cong}
 use Rattle.circuit.specs.declared.Colour.the-variants.{Green}
 use Rattle.circuit.specs.Colours.{join}
-use Rattle.circuit.specs.Sum.{at}
 use Rattle.polynomial.specs.Words.{heldBy}
 use Rattle.slices.specs.Slices.{coefficient}
 use Rattle.elimination.specs.Held.{held, rowAt}
 use Rattle.blocks.specs.Entries.{Lows, Bare, highDigits, wordEntry, Filled, Sides}
 use Rattle.blocks.proofs.SliceEntries.{sliceEntry, entry-is, coefficient-none}
+use Rattle.blocks.proofs.Places.{leb-cases}
 
 module _ (m b : ℕ) (table low : List ℕ) (small : m ≤ 16) (lows : Lows m table low) (l : ℕ) (inside : l < 64) where
   row-is : Bare m table → (i n : ℕ) → i ≤ 16 → n ≡ 17 * i + 1
       → tabulate 16 (λ j. wordEntry table low (highDigits m b) (n + j) l) ≡ tabulate 16 (λ j. ltb j m && sliceEntry m table (64 * b + l) i (suc j))
-  row-is bare i n hi e =
-      tabulate-cong 16 (λ j. wordEntry table low (highDigits m b) (n + j) l) (λ j. ltb j m && entry j)
-      (λ j h.
+  row-is bare i n hi e = tabulate-cong 16 _ _ (λ j h.
       let p : n + j ≡ 17 * i + suc j = omega arith in
-      rw p (entry-is m table low small lows b l i (suc j) inside hi (omega arith) ∙ narrow j h (ltb j m) refl))
-    where
-      entry : ℕ → Bool
-      entry j = sliceEntry m table (64 * b + l) i (suc j)
-
-      narrow : (j : ℕ) → j < 16 → (t : Bool) → ltb j m ≡ t → entry j ≡ ltb j m && entry j
-      narrow j h true q = sym (ap (λ x. x && entry j) q)
-      narrow j h false q =
-          let z : m ≤ j = ltb-false j m q in
-          let g : m < (17 * i + suc j) % 17 = omega arith in
-          coefficient-none m table (highFirst m (64 * b + l)) i (suc j) (bare (17 * i + suc j)
-          (ap (λ x. leb ((17 * i + suc j) / 17) m && x) (lt-leb ((17 * i + suc j) % 17) m g) ∙ and-false (leb ((17 * i + suc j) / 17) m)))
-          ∙ sym (ap (λ x. x && entry j) q)
+      let x : Bool = sliceEntry m table (64 * b + l) i (suc j) in
+      rw p (entry-is m table low small lows b l i (suc j) inside hi (omega arith) ∙ leb-cases (λ t. x ≡ t && x) (suc j) m (λ g. refl) (λ g.
+      let q : m < (17 * i + suc j) % 17 = omega arith in
+      coefficient-none m table _ i (suc j) (bare (17 * i + suc j) (rw (lt-leb ((17 * i + suc j) % 17) m q, and-false))))))
 
   module _ {before rows : List ℕ} (bare : Bare m table) (filled : Filled m table low (highDigits m b) before rows) where
     pub block-row : (k : ℕ) → k < m → rowAt l rows k ≡ tabulate 16 (λ j. ltb j m && sliceEntry m table (64 * b + l) (suc k) (suc j))
@@ -62,20 +49,15 @@ module _ (m b : ℕ) (table low : List ℕ) (small : m ≤ 16) (lows : Lows m ta
 
 module _ (m : ℕ) (table kept : List ℕ) (e : kept ≡ tabulate 289 (λ n. cond (leb (n / 17) m && leb (n % 17) m) (getD table n 0) 0)) where
   kept-word : (n : ℕ) → n < 289 → getD kept n 0 ≡ cond (leb (n / 17) m && leb (n % 17) m) (getD table n 0) 0
-  kept-word n h = ap (λ (l : List ℕ). getD l n 0) e ∙ getD-tabulate 289 (λ n. cond (leb (n / 17) m && leb (n % 17) m) (getD table n 0) 0) n 0 h
+  kept-word n h = rw e (getD-tabulate 289 _ n 0 h)
 
   pub within-bare : Bare m kept
-  within-bare n h = go (ltb n 289) refl
-    where
-      go : (t : Bool) → ltb n 289 ≡ t → getD kept n 0 ≡ 0
-      go true q = kept-word n (ltb-true n 289 q) ∙ ap (λ x. cond x (getD table n 0) 0) h
-      go false q = let z : 289 ≤ n = ltb-false n 289 q in
-          List·getD-eq-default kept 0 (omega (arith, ap length e, length-tabulate 289 (λ n. cond (leb (n / 17) m && leb (n % 17) m) (getD table n 0) 0)))
+  within-bare n h = leb-cases (λ t. getD kept n 0 ≡ 0) (suc n) 289 (λ g. kept-word n g ∙ rw h)
+      (λ g. List·getD-eq-default kept 0 (omega (arith, simp length-tabulate at (ap length e))))
 
   pub within-same : m ≤ 16 → (z : BitString) (i j : ℕ) → i ≤ m → j ≤ m → coefficient m (heldBy kept) Green z i j ≡ coefficient m (heldBy table) Green z i j
   unfolding coefficient heldBy join
   within-same small z i j hi hj =
       let p : (17 * i + j) / 17 ≤ m = omega arith in
       let q : (17 * i + j) % 17 ≤ m = omega arith in
-      ap (λ (w : ℕ). parity (suc m) (λ k. at k z && bitAt w k)) (kept-word (17 * i + j) (omega arith)
-      ∙ ap₂ (λ x y. cond (x && y) (getD table (17 * i + j) 0) 0) (le-leb ((17 * i + j) / 17) m p) (le-leb ((17 * i + j) % 17) m q))
+      rw (kept-word (17 * i + j) (omega arith), le-leb ((17 * i + j) / 17) m p, le-leb ((17 * i + j) % 17) m q)

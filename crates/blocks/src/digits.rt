@@ -1,13 +1,11 @@
 // What the six low digits of a slice's number add to each entry: made once for all blocks of a step.
 ghost use mathlib.Core.Bool.{cond, _&&_};
 ghost use mathlib.Core.Path.{_≡_};
-ghost use Prim.Native.Nat.{ℕ, _-_, _/_, _%_, min, _≤_, _<_};
+ghost use Prim.Native.Nat.{ℕ, _/_, _%_, min, _≤_, _<_};
 ghost use lib.Dec.{leb, ltb};
 ghost use lib.ListN.{length, getD};
-ghost use Rattle.gf2.specs.Sums.{parity};
 ghost use Rattle.gf2.specs.Words.{bitAt, wordOf, tabulate};
-ghost use Rattle.elimination.specs.Held.{held};
-ghost use Rattle.blocks.specs.Entries.{Lows, RowKept};
+ghost use Rattle.blocks.specs.Entries.{lowPart, Lows, RowKept};
 use circuit::INDICES;
 use polynomial::WORDS;
 
@@ -36,55 +34,31 @@ fn digit(q: usize) -> u64
     }
 }
 
-// What slices add by their low digits to an entry whose low positions are the bits of `j`: bit e is the position of digit 5 − e.
-fn pattern(j: usize) -> u64
-    requires { ⌜ j < 64 ⌝ }
-    ensures { λ r. ⌜ ((l : ℕ) → l < 64 → bitAt r l ≡ parity 6 (λ e. bitAt j e && bitAt l (5 - e))) ⌝ }
+// What the low digits of the slices add to an entry with the word `w`: digit q of a slice's number is position m − q.
+fn low_part(w: u32, m: usize) -> u64
+    requires { ⌜ m ≤ 16 ⌝ }
+    ensures { λ r. ⌜ ((l : ℕ) → l < 64 → bitAt r l ≡ lowPart m w l) ⌝ }
 {
-    let word = j as u32;
+    // Bit 5 − q is position m − q, and 0 where that is no position.
+    let positions = (w & POSITIONS) << 5 >> m;
     let mut sum: u64 = 0;
-    let mut e: usize = 0;
-    while e < 6 {
-        sum = sum ^ (spread(gf2::bit(word, e)) & digit(5 - e));
-        e += 1;
+    let mut q: usize = 0;
+    while q < 6 {
+        sum = sum ^ (spread(gf2::bit(positions, 5 - q)) & digit(q));
+        q += 1;
     }
     sum
 }
 
-// The patterns of all low positions.
-fn patterns() -> [u64; 64]
-    ensures { λ r. ⌜ ((l j : ℕ) → l < 64 → j < 64 → held l r j ≡ parity 6 (λ e. bitAt j e && bitAt l (5 - e))) ⌝ }
-{
-    let mut all = [0u64; 64];
-    let mut j: usize = 0;
-    while j < 64 {
-        all[j] = pattern(j);
-        j += 1;
-    }
-    all
-}
-
-// The low positions of a word: bit e is position m − 5 + e, and 0 where that is no position.
-fn low_positions(w: u32, m: usize) -> usize
-    requires { ⌜ m ≤ 16 ⌝ }
-    ensures { λ r. ⌜ (r < 64) × ((e : ℕ) → e < 6 → bitAt r (5 - e) ≡ ltb e m && bitAt w (m - e)) ⌝ }
-{
-    // Index 0 is no position; a left shift first, since m may be less than 5.
-    let positions = (w & POSITIONS) as u64;
-    (positions << 16 >> (m + 11) & 63) as usize
-}
-
-// What the low digits add, for each entry of the table: digit q of a slice's number is position m − q.
+// What the low digits add, for each entry of the table.
 pub fn lows(table: &[u32; WORDS], m: usize) -> [u64; WORDS]
     ensures { λ r. ⌜ Lows (min m 16) (now (table .entry)) r ⌝ }
 {
     let n = circuit::positions(m);
-    let by_positions = patterns();
     let mut low = [0u64; WORDS];
     let mut k: usize = 0;
     while k < WORDS {
-        let j = low_positions(table[k], n);
-        low[k] = by_positions[j];
+        low[k] = low_part(table[k], n);
         k += 1;
     }
     low

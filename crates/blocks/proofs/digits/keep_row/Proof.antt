@@ -14,9 +14,6 @@ Inv-loop kept₀ table m i j₀ kept j = (j ≤ m + 1) × Written (λ j. 17 * i 
 abbrev μ-loop : tie.MeasureT-loop
 μ-loop kept₀ table m i j₀ kept j = m + 1 - j
 
-loop-holds : tie.Need-loop-holds Inv-loop μ-loop
-loop-holds c = (omega arith, written-none _ _ _)
-
 loop-again : tie.Need-loop-again Inv-loop μ-loop
 loop-again c = (omega arith, written-next _ (c .before .before .loop .inv .1) (λ n h q. omega arith) (omega arith) refl)
 
@@ -27,5 +24,6 @@ returns c =
 
 pub keep-row-spec : {M : Type 1} → statement M
 keep-row-spec =
-    tie.close (tie.spec Inv-loop μ-loop loop-holds (λ c. search needs) (λ c. search needs) (λ c. search needs) (λ c. search needs) (λ c. search needs)
-    (λ c. search needs) (λ c. search needs) (λ c. search needs) (λ c. search needs) (λ c. search needs) loop-again returns)
+    tie.close (tie.spec Inv-loop μ-loop (λ c. search (needs, written-none)) (λ c. search needs) (λ c. search needs) (λ c. search needs)
+    (λ c. search needs) (λ c. search needs) (λ c. search needs) (λ c. search needs) (λ c. search needs) (λ c. search needs) (λ c. search needs)
+    loop-again returns)

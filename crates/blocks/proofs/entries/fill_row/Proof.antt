@@ -13,9 +13,6 @@ Inv-loop rows₀ table low high i from j₀ rows j = (j ≤ 16) × Written (λ n
 abbrev μ-loop : tie.MeasureT-loop
 μ-loop rows₀ table low high i from j₀ rows j = 16 - j
 
-loop-holds : tie.Need-loop-holds Inv-loop μ-loop
-loop-holds c = (omega arith, written-none _ _ _)
-
 loop-again : tie.Need-loop-again Inv-loop μ-loop
 loop-again c = (omega arith, written-next _ (c .before .before .loop .inv .1) (λ n h q. omega arith) (omega arith) (c .entry .ensures))
 
@@ -24,5 +21,5 @@ returns c = let w : _ = c .before .loop .inv .1 in record { size = w .size; row 
 
 pub fill-row-spec : {M : Type 1} → statement M
 fill-row-spec =
-    tie.close (tie.spec Inv-loop μ-loop loop-holds (λ c. search needs) (λ c κs. search needs) (λ c. search needs) (λ c. search needs)
-    (λ c. search needs) (λ c. search needs) (λ c. search needs) (λ c. search needs) loop-again returns)
+    tie.close (tie.spec Inv-loop μ-loop (λ c. search (needs, written-none)) (λ c. search needs) (λ c κs. search needs) (λ c. search needs)
+    (λ c. search needs) (λ c. search needs) (λ c. search needs) (λ c. search needs) (λ c. search needs) loop-again returns)

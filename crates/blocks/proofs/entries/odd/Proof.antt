@@ -3,9 +3,6 @@ use Rattle.blocks.proofs.Places.{odd-folded}
 use Rattle.blocks.proofs.entries.odd.Statement.{statement}
 use Rattle.blocks.proofs.entries.odd.Tie as tie
 
-returns : tie.Need-returns
-returns c = odd-folded (c .args .w)
-
 pub odd-spec : {M : Type 1} → statement M
 odd-spec =
-    tie.close (tie.spec returns)
+    tie.close (tie.spec (λ c. odd-folded (c .args .w)))

@@ -16,9 +16,6 @@ Inv-loop table low high a₀ i₀ a i = (i ≤ 16) × (length a₀ ≡ 17) × Wr
 abbrev μ-loop : tie.MeasureT-loop
 μ-loop table low high a₀ i₀ a i = 16 - i
 
-loop-holds : tie.Need-loop-holds Inv-loop μ-loop
-loop-holds c = (omega arith, refl, written-none _ _ _)
-
 loop-again : tie.Need-loop-again Inv-loop μ-loop
 loop-again c = (omega arith, refl, written-next _ (c .before .before .loop .inv .2) (λ n h q. omega arith) (omega arith) (c .entry .ensures))
 
@@ -31,5 +28,5 @@ returns c =
 
 pub sides-spec : {M : Type 1} → statement M
 sides-spec =
-    tie.close (tie.spec Inv-loop μ-loop loop-holds (λ c. search needs) (λ c. search needs) (λ c κs. search needs) (λ c. search needs)
-    (λ c. search needs) (λ c. search needs) (λ c. search needs) loop-again (λ c κs. search needs) (λ c. search needs) returns)
+    tie.close (tie.spec Inv-loop μ-loop (λ c. search (needs, written-none)) (λ c. search needs) (λ c. search needs) (λ c κs. search needs)
+    (λ c. search needs) (λ c. search needs) (λ c. search needs) (λ c. search needs) loop-again (λ c κs. search needs) (λ c. search needs) returns)
