@@ -1,5 +1,5 @@
--- The words of a table: 17 bits of a word, one for each index of a colour, and the words by the loop that stores them in turn.
-use mathlib.Core.Path.{_≡_, refl, sym, _∙_, ap, ap₂}
+-- The words of a table: 17 bits of a word, one for each index of a colour, and the words by the loop that makes them in turn.
+use mathlib.Core.Path.{_≡_, sym, _∙_, ap}
 use mathlib.Core.Bool.{Bool, true, false, cond, _&&_}
 use mathlib.Core.List.{List}
 use Prim.Native.Nat.{ℕ, _+_, _*_, _/_, _%_, _^_, _≤_, _<_}
@@ -7,74 +7,82 @@ use native.Mathlib.Nat.{add-comm, add-zero, one-mul}
 use native.Mathlib.Numerals.{add-one}
 use native.Mathlib.Omega.{arith}
 use lib.Bits.{bitAnd, bitOr, and-mask, or-shifted-r, or-zero-r}
-use lib.Dec.{eqb, ltb}
-use lib.ListN.{length, length-set, getD, set}
-use lib.Seq.{getD-set-same, getD-set-other}
-use borrow.Author.Tests.{eqb-true, eqb-false, lt-ltb}
-use Rattle.gf2.specs.Words.{bitAt, wordOf}
-use Rattle.gf2.proofs.Tables.{tabulate-unique}
-use Rattle.gf2.proofs.WordBits.{bitAt-wordOf, bitAt-mod, wordOf-lt, wordOf-cong, wordOf-bits, wordOf-unique}
+use lib.Dec.{ltb}
+use lib.ListN.{length, length-set, getD, set, take}
+use lib.Seq.{take-all, take-suc-set}
+use borrow.Author.Tests.{lt-ltb}
+use Rattle.gf2.specs.Words.{bitAt, wordOf, tabulate}
+use Rattle.gf2.proofs.Tables.{getD-tabulate}
+use Rattle.gf2.proofs.WordBits.{bitAt-wordOf, bitAt-wordOf-lt, bitAt-mod, wordOf-lt, wordOf-cong, wordOf-unique}
 use Rattle.circuit.specs.declared.Colour.{Colour}
+use Rattle.circuit.specs.declared.Colour.the-variants.{Blue, Green}
 use Rattle.circuit.specs.Colours.{join}
 use Rattle.circuit.specs.Polynomial.{Polynomial, term}
 use Rattle.polynomial.specs.Words.{wordsOf, heldBy}
 use Rattle.polynomial.proofs.PolynomialWords.{bit-at, moved-bit}
 use Rattle.tables.specs.Table.{seenFrom, tableOf}
 
--- ---- 17 bits of a word
-
 -- One more bit of a word: bit k of v at place j.
-pub gathered-more : (g : ℕ → Bool) (j k v x : ℕ) → j ≤ 16 → x ≡ wordOf j g → bitAt v k ≡ g j
-    → bitOr x (bitAnd (v / 2 ^ k) 1 * 2 ^ j % 2 ^ 32) ≡ wordOf (j + 1) g
+pub gathered-more : (g : ℕ → Bool) (j k v : ℕ) → j ≤ 16 → bitAt v k ≡ g j → bitOr (wordOf j g) (bitAnd (v / 2 ^ k) 1 * 2 ^ j % 2 ^ 32) ≡ wordOf (j + 1) g
 unfolding wordOf
-gathered-more g j k v x h e d =
-    ap₂ bitOr e (moved-bit v k j h ∙ ap (λ (b : Bool). cond b (2 ^ j) 0) d) ∙ go (g j) ∙ ap (λ (n : ℕ). wordOf n g) (sym (add-one j))
+gathered-more g j k v h d = rw (moved-bit v k j h, d, add-one) (go (g j))
   where
     go : (b : Bool) → bitOr (wordOf j g) (cond b (2 ^ j) 0) ≡ wordOf j g + cond b (2 ^ j) 0
     go true =
-        ap (bitOr (wordOf j g)) (sym (one-mul (2 ^ j))) ∙ or-shifted-r 1 j (wordOf j g) (wordOf-lt j g)
-        ∙ ap (λ (p : ℕ). p + wordOf j g) (one-mul (2 ^ j)) ∙ add-comm (2 ^ j) (wordOf j g)
+        rw (← one-mul (2 ^ j)) (or-shifted-r 1 j (wordOf j g) (wordOf-lt j g) ∙ add-comm (1 * 2 ^ j) (wordOf j g))
     go false = or-zero-r (wordOf j g) ∙ sym (add-zero (wordOf j g))
-
--- A word that has no bit above its first 17.
-pub low-word : (a b : ℕ → Bool) → ((k : ℕ) → k ≤ 16 → a k ≡ b k) → wordOf 17 a ≡ wordOf 32 (λ k. ltb k 17 && b k)
-low-word a b h =
-    wordOf-cong 17 a b (λ k l. h k (omega arith))
-    ∙ wordOf-unique 32 (wordOf 17 b) (λ k. ltb k 17 && b k) (omega (arith, wordOf-lt 17 b)) (λ k l. bitAt-wordOf 17 b k)
-
-pub low-bits : (w : ℕ) → bitAnd w 131071 ≡ wordOf 17 (bitAt w)
-low-bits w =
-    and-mask w 17 ∙ sym (wordOf-bits 17 (w % 2 ^ 17) (omega arith)) ∙ wordOf-cong 17 (bitAt (w % 2 ^ 17)) (bitAt w) (λ k l. bitAt-mod 17 w k l)
 
 -- ---- words by their loop
 
--- One more word stored behind those that are in place.
-pub stored-more : (g : ℕ → ℕ) (t : List ℕ) (n v : ℕ) → n < length t → v ≡ g n → ((p : ℕ) → p < n → getD t p 0 ≡ g p)
-    → (p : ℕ) → p < n + 1 → getD (set t n v) p 0 ≡ g p
-stored-more g t n v h e before p l = go (eqb p n) refl
-  where
-    go : (b : Bool) → eqb p n ≡ b → getD (set t n v) p 0 ≡ g p
-    go true q = ap (λ (x : ℕ). getD (set t n v) x 0) (eqb-true p n q) ∙ getD-set-same t n v 0 h ∙ e ∙ ap g (sym (eqb-true p n q))
-    go false q = getD-set-other t n p v 0 (eqb-false p n q) ∙ before p (below (eqb-false p n q))
-      where
-        below : (p ≡ n → ⊥) → p < n
-        below d = omega arith
+-- Word n of f, and the same read from the words of f.
+abbrev pub wordAt : Polynomial → ℕ → ℕ
+wordAt f n = wordOf 32 (λ k. f (term (n / 17) (n % 17) k))
 
--- The first n of 289 words stand in place.
-abbrev pub Filled : (ℕ → ℕ) → List ℕ → ℕ → Type 0
-Filled g t n = (n ≤ 289) × (length t ≡ 289) × ((p : ℕ) → p < n → getD t p 0 ≡ g p)
-
-pub filled-more : (g : ℕ → ℕ) (t : List ℕ) (n v : ℕ) → n < 289 → v ≡ g n → Filled g t n → Filled g (set t n v) (n + 1)
-filled-more g t n v h e (l, s, r) = (omega arith, length-set t n v ∙ s, stored-more g t n v (omega arith) e r)
-
--- Words that are made from the terms of f, by their number.
-pub words-filled : (f : Polynomial) (g : ℕ → ℕ) (t : List ℕ) (n : ℕ) → Filled g t n → 289 ≤ n
-    → ((p : ℕ) → p / 17 ≤ 16 → p % 17 ≤ 16 → g p ≡ wordOf 32 (λ k. f (term (p / 17) (p % 17) k))) → t ≡ wordsOf f
+pub word-read : (f : Polynomial) (ws : List ℕ) (n : ℕ) → ws ≡ wordsOf f → n < 289 → getD ws n 0 ≡ wordAt f n
 unfolding wordsOf
-words-filled f g t n (l, s, r) done h =
-    tabulate-unique 289 (λ w. wordOf 32 (λ k. f (term (w / 17) (w % 17) k))) t 0 s (λ p b. r p (omega arith) ∙ h p (omega arith) (omega arith))
+word-read f ws n e h = rw e (getD-tabulate 289 (wordAt f) n 0 h)
+
+-- Of 289 words t the first n are those of F f, where f is the polynomial of the words ws.
+abbrev pub Made : (Polynomial → Polynomial) → List ℕ → List ℕ → ℕ → Type 0
+Made F ws t n = (n ≤ 289) × (length t ≡ 289) × ((f : Polynomial) → ws ≡ wordsOf f → take n t ≡ tabulate n (wordAt (F f)))
+
+module _ (F : Polynomial → Polynomial) (ws t : List ℕ) where
+  -- One word more.
+  pub made-more : (n v : ℕ) → n < 289 → ((f : Polynomial) → ws ≡ wordsOf f → v ≡ wordAt (F f) n) → Made F ws t n → Made F ws (set t n v) (n + 1)
+  unfolding tabulate
+  made-more n v h next (b, l, made) =
+      (omega arith, length-set t n v ∙ l, λ f e. rw (add-one, take-suc-set t n v (omega arith), made f e, next f e))
+
+  -- All of them.
+  pub made-all : (n : ℕ) → 289 ≤ n → Made F ws t n → (f : Polynomial) → ws ≡ wordsOf f → t ≡ wordsOf (F f)
+  unfolding wordsOf
+  made-all n h (b, l, made) f e =
+      let done : n ≡ 289 = omega arith in
+      rw (done, take-all 289 t (omega arith)) at (made f e)
 
 -- ---- the table
+
+-- A word of the table has no bit above its first 17.
+seen-word : (C : Colour) (f : Polynomial) (n : ℕ) (g : ℕ → Bool) → ((k : ℕ) → k ≤ 16 → g k ≡ f (join C k (n / 17) (n % 17)))
+    → wordOf 17 g ≡ wordAt (seenFrom C f) n
+unfolding seenFrom term
+seen-word C f n g h =
+    let bits : ℕ → Bool = λ k. f (join C k (n / 17) (n % 17)) in
+    wordOf-cong 17 g bits (λ k l. h k (omega arith))
+    ∙ wordOf-unique 32 (wordOf 17 bits) (λ k. ltb k 17 && bits k) (omega (arith, wordOf-lt 17 bits)) (λ k l. bitAt-wordOf 17 bits k)
+
+-- Seen from blue it is gathered from the words of its red index, and from green it is the low bits of the word in its place.
+pub blue-word : (f : Polynomial) (ws : List ℕ) (n : ℕ) → ws ≡ wordsOf f → n < 289
+    → wordOf 17 (λ k. bitAt (getD ws (17 * (n / 17) + k) 0) (n % 17)) ≡ wordAt (seenFrom Blue f) n
+unfolding join term
+blue-word f ws n e h = rw e (seen-word Blue f n _ (λ k l. bit-at f (n / 17) k (n % 17) (omega arith) l (omega arith)))
+
+pub green-word : (f : Polynomial) (ws : List ℕ) (n : ℕ) → ws ≡ wordsOf f → n < 289 → bitAnd (getD ws n 0) 131071 ≡ wordAt (seenFrom Green f) n
+unfolding join term
+green-word f ws n e h =
+    let w : ℕ = getD ws n 0 in
+    and-mask w 17 ∙ wordOf-unique 17 (w % 2 ^ 17) (bitAt w) (omega arith) (λ k l. bitAt-mod 17 w k l)
+    ∙ seen-word Green f n _ (λ k l. rw (word-read f ws n e h) (bitAt-wordOf-lt 32 (λ k. f (term (n / 17) (n % 17) k)) k (omega arith)))
 
 -- The polynomial that a table holds is the one seen from its colour.
 pub seen-at : (C : Colour) (f : Polynomial) (i j k : ℕ) → i ≤ 16 → j ≤ 16 → k ≤ 16 → heldBy (tableOf C f) (term i j k) ≡ f (join C k i j)

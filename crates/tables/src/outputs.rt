@@ -2,37 +2,13 @@
 ghost use mathlib.Core.Bool.{cond};
 ghost use mathlib.Core.Path.{_≡_};
 ghost use lib.Dec.{leb};
-ghost use Prim.Native.Nat.{_+_, _*_, _≤_, _<_};
+ghost use Prim.Native.Nat.{_≤_};
 ghost use Rattle.gf2.specs.Digits.{highFirst};
-ghost use Rattle.circuit.specs.Colours.{join};
 ghost use Rattle.circuit.specs.Polynomial.{Polynomial};
 ghost use Rattle.polynomial.specs.Words.{wordsOf};
 ghost use Rattle.tables.specs.Table.{strings, added, withOutput};
 use circuit::Colour;
 use polynomial::WORDS;
-
-// The word of the term that holds position `p` of a colour alone.
-fn word_of(colour: Colour, p: usize) -> usize
-    requires { ⌜ p ≤ 16 ⌝ }
-    ensures { λ r. ⌜ (r ≡ 17 * join colour p 0 0 .red + join colour p 0 0 .blue) × (r < 289) ⌝ }
-{
-    match colour {
-        Colour::Red => 17 * p,
-        Colour::Blue => p,
-        Colour::Green => 0,
-    }
-}
-
-// The bit of that word.
-fn bit_of(colour: Colour, p: usize) -> usize
-    ensures { λ r. ⌜ r ≡ join colour p 0 0 .green ⌝ }
-{
-    match colour {
-        Colour::Red => 0,
-        Colour::Blue => 0,
-        Colour::Green => p,
-    }
-}
 
 // A string of one colour added: `value` has position 1 as the highest of its m digits.
 fn add_string(words: [u32; WORDS], colour: Colour, m: usize, value: u32) -> [u32; WORDS]
@@ -43,9 +19,12 @@ fn add_string(words: [u32; WORDS], colour: Colour, m: usize, value: u32) -> [u32
     let mut p = 1;
     while p <= m {
         if gf2::bit(value, m - p) {
-            let w = word_of(colour, p);
-            let k = bit_of(colour, p);
-            next[w] = gf2::toggle(next[w], k);
+            // The term that holds position p alone has index 0 in the other two colours.
+            match colour {
+                Colour::Red => next[17 * p] = gf2::toggle(next[17 * p], 0),
+                Colour::Blue => next[p] = gf2::toggle(next[p], 0),
+                Colour::Green => next[0] = gf2::toggle(next[0], p),
+            }
         }
         p += 1;
     }

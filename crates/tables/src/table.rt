@@ -1,8 +1,7 @@
 // The table of a sum: the polynomial seen from the sliced colour, whose index comes last.
-ghost use mathlib.Core.Bool.{_&&_};
+ghost use mathlib.Core.Bool.{cond};
 ghost use mathlib.Core.Path.{_≡_};
 ghost use Prim.Native.Nat.{_+_, _≤_};
-ghost use lib.Dec.{ltb};
 ghost use lib.ListN.{getD};
 ghost use Rattle.gf2.specs.Words.{wordOf, bitAt};
 ghost use Rattle.circuit.specs.Polynomial.{Polynomial, term};
@@ -22,21 +21,25 @@ fn gathered(words: &[u32; WORDS], from: usize, k: usize) -> u32
 {
     let mut bits: u32 = 0;
     let mut j: usize = 0;
-    while j < 17 {
+    while j < INDICES {
         bits = bits | ((words[from + j] >> k & 1) << j);
         j += 1;
     }
     bits
 }
 
-// Blue and green change places. No word has a bit for an index above 16.
-fn blue_last(words: &[u32; WORDS]) -> [u32; WORDS]
-    ensures { λ r. ⌜ ((f : Polynomial) → now (words .entry) ≡ wordsOf f → r ≡ wordsOf (λ h. ltb (h .green) 17 && f (term (h .red) (h .green) (h .blue)))) ⌝ }
+// The table for blue, or else for green. No word has a bit for an index above 16.
+fn blue_or_green(words: &[u32; WORDS], blue: bool) -> [u32; WORDS]
+    ensures { λ r. ⌜ ((f : Polynomial) → now (words .entry) ≡ wordsOf f → r ≡ tableOf (cond blue Colour.Blue Colour.Green) f) ⌝ }
 {
     let mut t = [0u32; WORDS];
     let mut n: usize = 0;
     while n < WORDS {
-        t[n] = gathered(words, INDICES * (n / INDICES), n % INDICES);
+        t[n] = if blue {
+            gathered(words, INDICES * (n / INDICES), n % INDICES)
+        } else {
+            words[n] & INDEX_BITS
+        };
         n += 1;
     }
     t
@@ -55,19 +58,6 @@ fn red_second(words: &[u32; WORDS]) -> [u32; WORDS]
     t
 }
 
-// The terms whose green index is at most 16.
-fn green_last(words: &[u32; WORDS]) -> [u32; WORDS]
-    ensures { λ r. ⌜ ((f : Polynomial) → now (words .entry) ≡ wordsOf f → r ≡ wordsOf (λ h. ltb (h .green) 17 && f h)) ⌝ }
-{
-    let mut t = [0u32; WORDS];
-    let mut n: usize = 0;
-    while n < WORDS {
-        t[n] = words[n] & INDEX_BITS;
-        n += 1;
-    }
-    t
-}
-
 // The table of the polynomial for one colour.
 pub fn table(words: [u32; WORDS], colour: Colour) -> [u32; WORDS]
     ensures { λ r. ⌜ ((f : Polynomial) → words ≡ wordsOf f → r ≡ tableOf colour f) ⌝ }
@@ -75,9 +65,9 @@ pub fn table(words: [u32; WORDS], colour: Colour) -> [u32; WORDS]
     match colour {
         Colour::Red => {
             let swapped = red_second(&words);
-            blue_last(&swapped)
+            blue_or_green(&swapped, true)
         }
-        Colour::Blue => blue_last(&words),
-        Colour::Green => green_last(&words),
+        Colour::Blue => blue_or_green(&words, true),
+        Colour::Green => blue_or_green(&words, false),
     }
 }

@@ -1,6 +1,5 @@
 -- After j turns the word has the first j bits.
-use mathlib.Core.Path.{_≡_, refl, _∙_, ap}
-use mathlib.Core.Bool.{Bool}
+use mathlib.Core.Path.{_≡_, refl}
 use Prim.Native.Nat.{ℕ, _+_, _-_, _≤_}
 use native.Mathlib.Omega.{arith}
 use lib.ListN.{getD}
@@ -24,14 +23,13 @@ loop-again : tie.Need-loop-again Inv-loop μ-loop
 loop-again c =
     let args = c .before .before .before .args in
     let at = c .before .before .loop in
-    let g : ℕ → Bool = λ n. bitAt (getD (args .words .now) (args .from + n) 0) (args .k) in
-    (omega arith, gathered-more g (at .j) (args .k) (getD (args .words .now) (args .from + at .j) 0) (at .bits) (omega arith) (at .inv .1) refl)
+    let word : ℕ → ℕ = λ n. getD (args .words .now) (args .from + n) 0 in
+    (omega arith, rw (at .inv .1) (gathered-more (λ n. bitAt (word n) (args .k)) (at .j) (args .k) (word (at .j)) (omega arith) refl))
 
 returns : tie.Need-returns Inv-loop μ-loop
 returns c =
-    let args = c .before .before .args in
     let done : c .before .loop .j ≡ 17 = omega arith in
-    c .before .loop .inv .1 ∙ ap (λ (n : ℕ). wordOf n (λ j. bitAt (getD (args .words .now) (args .from + j) 0) (args .k))) done
+    rw (← done) (c .before .loop .inv .1)
 
 pub gathered-spec : {M : Type 1} → statement M
 gathered-spec =

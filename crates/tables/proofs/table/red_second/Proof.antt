@@ -1,39 +1,27 @@
--- After n turns the first n words stand in place, each the word whose red and blue index are changed.
-use mathlib.Core.Path.{refl, _∙_, ap}
-use mathlib.Core.List.{List}
-use Prim.Native.Nat.{ℕ, _+_, _*_, _-_, _/_, _%_}
+-- After n turns the first n words are made, each the word whose red and blue index are changed.
+use mathlib.Core.Path.{refl}
+use Prim.Native.Nat.{_-_}
 use native.Mathlib.Omega.{arith}
-use lib.ListN.{getD}
+use Rattle.gf2.specs.Words.{tabulate}
 use Rattle.circuit.specs.Polynomial.{term}
 use Rattle.polynomial.proofs.PolynomialWords.{word-at}
-use Rattle.tables.proofs.TableWords.{Filled, filled-more, words-filled}
+use Rattle.tables.proofs.TableWords.{Made, made-more, made-all}
 use borrow.Author.Needs.{needs}
 use Rattle.tables.proofs.table.red_second.Statement.{statement}
 use Rattle.tables.proofs.table.red_second.Tie as tie
 
 abbrev Inv-loop : tie.InvT-loop
-Inv-loop words t₀ n₀ t n = Filled (λ p. getD words (17 * (p % 17) + p / 17) 0) t n
+Inv-loop words t₀ n₀ t n = Made (λ f h. f (term (h .blue) (h .red) (h .green))) words t n
 
 abbrev μ-loop : tie.MeasureT-loop
 μ-loop words t₀ n₀ t n = 289 - n
 
-loop-holds : tie.Need-loop-holds Inv-loop μ-loop
-loop-holds c = (omega arith, refl, λ p h. absurd (omega arith))
-
-loop-again : tie.Need-loop-again Inv-loop μ-loop
-loop-again c =
-    let at = c .before .before .loop in
-    let words = c .before .before .before .args .words .now in
-    filled-more (λ p. getD words (17 * (p % 17) + p / 17) 0) (at .t) (at .n) (getD words (17 * (at .n % 17) + at .n / 17) 0) (omega arith) refl (at .inv)
-
-returns : tie.Need-returns Inv-loop μ-loop
-unfolding term
-returns c = λ f e.
-    words-filled (λ h. f (term (h .blue) (h .red) (h .green))) (λ p. getD (c .before .before .args .words .now) (17 * (p % 17) + p / 17) 0)
-    (c .before .loop .t) (c .before .loop .n) (c .before .loop .inv) (c .loop-test .left)
-    (λ p hi hj. ap (λ (ws : List ℕ). getD ws (17 * (p % 17) + p / 17) 0) e ∙ word-at f (p % 17) (p / 17) hj hi)
-
 pub red-second-spec : {M : Type 1} → statement M
+unfolding tabulate term
 red-second-spec =
-    tie.close (tie.spec Inv-loop μ-loop loop-holds (λ c. search needs) (λ c. search needs) (λ c. search needs) (λ c. search needs) (λ c. search needs)
-    (λ c. search needs) (λ c. search needs) (λ c. search needs) loop-again returns)
+    tie.close (tie.spec Inv-loop μ-loop (λ c. (omega arith, refl, λ f e. refl)) (λ c. search needs) (λ c. search needs) (λ c. search needs)
+    (λ c. search needs) (λ c. search needs) (λ c. search needs) (λ c. search needs) (λ c. search needs)
+    (λ c.
+    made-more (λ f h. f (term (h .blue) (h .red) (h .green))) _ _ _ _ (omega arith)
+    (λ f e. rw e (word-at f _ _ (omega arith) (omega arith))) (c .before .before .loop .inv))
+    (λ c. made-all _ _ _ _ (c .loop-test .left) (c .before .loop .inv)))
