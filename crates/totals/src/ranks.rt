@@ -1,6 +1,6 @@
 // The slices of a block counted rank by rank.
 ghost use mathlib.Core.Path.{_≡_};
-ghost use Prim.Native.Nat.{_+_, _*_, _≤_, _<_};
+ghost use Prim.Native.Nat.{_+_, _*_, _≤_};
 ghost use lib.ListN.{length};
 ghost use Rattle.totals.specs.Weights.{Raised, Ranked, leftOf, weighed};
 
