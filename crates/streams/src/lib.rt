@@ -1,42 +1,43 @@
 // Standard input and output of the program, which someone may have made non-blocking. A call that was interrupted or would block is neither the
-// end of the input nor a failed write: it is made again after a pause. What is made of a call's answer is proved. The contracts of the system's
-// calls do not tell which bytes they move: that the calls are made, and each line on standard error, is read off the code and tested.
-ghost use Rattle.std.specs.Prelude.{false, ◌≡◌, ◌-◌, ◌≤◌, length};
-ghost use Rattle.libc.specs.Io.{Moved};
-ghost use Rattle.streams.specs.Streams.{failed_call, transient_error, tries_again, after_write, Settled, Stopped};
+// end of the input nor a failed write: it is made again after a pause. What is made of a call's answer is proved, and so is which bytes are moved,
+// for every reader whose bytes are known and every writer that tells what it holds. No contract says what the system's own streams give and take.
+#![tactic(auto)]
 
-use libc::types::timespec;
-use libc::{EAGAIN, EINTR, STDIN_FILENO, STDOUT_FILENO};
+ghost use Rattle.std.specs.Prelude.{◌≡◌, ◌-◌, ◌<◌, ◌≤◌, length, take, drop, true, false, ℕ};
+ghost use Rattle.std.specs.IoError.{error_kind};
+ghost use Rattle.std.specs.Counts.{IsPrefixLen};
+ghost use Rattle.std.specs.Io.KnownBytes.{Appends, Consumes, IsAtEnd, ReadConsumes, WriteAppends};
+ghost use Rattle.streams.specs.Streams.{after_write, delivered, failed_call, Moved, moved, Settled, Stopped, transient_error, tries_again, written};
+
+use arrayvec::ArrayString;
+use std::fmt::Write as _;
+use std::io::{ErrorKind, Read, Write};
+use std::rt::Clock;
+use std::time::Duration;
+use std::{io, thread};
 
 // A proved loop has to end, and nothing says that a stream that would block is ever ready. No run makes so many pauses.
 const MOST_PAUSES: u64 = u64::MAX;
 
-// What a call answered, and the error number right after it, which means something only where the answer is negative.
-#[derive(Drop)]
-pub struct Answer {
-    pub got: isize,
-    pub error: i32,
-}
-
 // How a read ended: what its last call answered, how many pauses were made, and whether it failed for good.
-#[derive(Drop)]
+#[derive(Clone, Copy)]
 pub struct ReadOutcome {
-    pub last: Answer,
+    pub last: io::Result<usize>,
     pub pauses: u64,
     pub failed: bool,
 }
 
 // How a write ended: where its last call began, what that call answered, how many pauses were made, and whether all bytes were written.
-#[derive(Drop)]
+#[derive(Clone, Copy)]
 pub struct WriteOutcome {
     pub at: usize,
-    pub last: Answer,
+    pub last: io::Result<usize>,
     pub pauses: u64,
     pub whole: bool,
 }
 
 // What a write call leaves to do.
-#[derive(Drop)]
+#[derive(Clone, Copy)]
 pub enum Progress {
     // Nothing: all bytes are written.
     Done,
@@ -48,47 +49,50 @@ pub enum Progress {
     Failed,
 }
 
-// About a millisecond. Where a signal ends it early, the call after it comes early too, and that does no harm.
-fn pause() {
-    let asked = timespec {
-        tv_sec: 0,
-        tv_nsec: 1000000,
-    };
-    let mut left = timespec {
-        tv_sec: 0,
-        tv_nsec: 0,
-    };
-    libc::nanosleep(&asked, &mut left);
+// About a millisecond.
+fn pause(clock: &impl Clock) {
+    thread::sleep(clock, Duration::from_millis(1));
 }
 
-fn failed(answer: Answer) -> bool
-    ensures { result ≡ failed_call answer.got }
+fn failed(last: &io::Result<usize>) -> bool
+    ensures { result ≡ failed_call last.now }
 {
-    answer.got < 0
+    last.is_err()
 }
 
-fn transient(error: i32) -> bool
-    ensures { result ≡ transient_error error }
+fn transient(error: &io::Error) -> bool
+    ensures { result ≡ transient_error error.now }
 {
-    error == EINTR || error == EAGAIN
+    matches!(error.kind(), ErrorKind::Interrupted | ErrorKind::WouldBlock)
 }
 
 // Whether a call is to be made again, after so many pauses: it was interrupted, or would block.
-fn tries_again(answer: Answer, pauses: u64) -> bool
-    ensures { result ≡ tries_again answer.got answer.error pauses }
+fn tries_again(last: &io::Result<usize>, pauses: u64) -> bool
+    ensures { result ≡ tries_again last.now pauses }
 {
-    if pauses >= MOST_PAUSES {
-        return false;
+    match last {
+        Ok(_) => false,
+        Err(error) => pauses < MOST_PAUSES && transient(error),
     }
-    failed(answer) && transient(answer.error)
+}
+
+// How many of the bytes of `part` a call moved that was given them: none where it failed.
+pub fn count(last: &io::Result<usize>, part: &[u8]) -> usize
+    ensures in_bounds { IsPrefixLen result part.now }
+    ensures value { result ≡ moved last.now (length part.now) }
+{
+    match last {
+        Ok(count) => (*count).min(part.len()),
+        Err(_) => 0,
+    }
 }
 
 // What a write call of the bytes from `at` on leaves to do.
-fn after_write(bytes: &[u8], at: usize, last: Answer, pauses: u64) -> Progress
+fn after_write(bytes: &[u8], at: usize, last: &io::Result<usize>, pauses: u64) -> Progress
     requires { at ≤ length bytes.now }
-    ensures { result ≡ after_write at (length bytes.now) last.got last.error pauses }
+    ensures { result ≡ after_write at (length bytes.now) last.now pauses }
 {
-    let next = at + io::count(last.got, &bytes[at..]);
+    let next = at + count(last, &bytes[at..]);
     if next == bytes.len() {
         return Progress::Done;
     }
@@ -101,29 +105,48 @@ fn after_write(bytes: &[u8], at: usize, last: Answer, pauses: u64) -> Progress
     Progress::Later
 }
 
-fn read_once(chunk: &mut [u8]) -> Answer
-    ensures { Moved (length chunk.old) result.got }
+fn read_once<R: Read>(input: &mut R, chunk: &mut [u8]) -> io::Result<usize>
+    ensures moved { Moved (length chunk.old) result }
+    ensures bytes { ReadConsumes (R.remaining input.old) (R.remaining input.new) result chunk.new }
 {
-    let got = libc::read(STDIN_FILENO, chunk);
-    let error = os::errno();
-    Answer { got, error }
+    input.read(chunk)
 }
 
-fn write_once(bytes: &[u8], at: usize) -> Answer
+fn write_once<W: Write>(output: &mut W, bytes: &[u8], at: usize) -> io::Result<usize>
     requires { at ≤ length bytes.now }
-    ensures { Moved (length bytes.now - at) result.got }
+    ensures moved { Moved (length bytes.now - at) result }
+    ensures bytes { WriteAppends (W.contents output.old) (W.contents output.new) result (drop at bytes.now) }
 {
-    let got = libc::write(STDOUT_FILENO, &bytes[at..]);
-    let error = os::errno();
-    Answer { got, error }
+    output.write(&bytes[at..])
 }
 
-// Where a read failed for good, a line on standard error says why: the error number is still that of its last call.
-fn read_ended(last: Answer, pauses: u64) -> ReadOutcome
-    ensures { result ≡ record { last = last; pauses = pauses; failed = failed_call last.got } }
+// What stands before the error's number, which `Display` puts in brackets behind its text.
+fn text_alone(text: &str) -> &str {
+    match text.find(" (os error ") {
+        Some(end) => &text[..end],
+        None => text,
+    }
+}
+
+// A line on standard error says which stream failed, and why. A call that took nothing and told no error counts as failed too; the system words that
+// as its error 0. Where the line cannot be written, there is nowhere to say so.
+fn tell(errors: &impl Eprint, stream: &str, last: &io::Result<usize>) {
+    let error = match last {
+        Ok(_) => io::Error::from_raw_os_error(0),
+        Err(error) => *error,
+    };
+    let mut text = ArrayString::<128>::new();
+    let _ = write!(text, "{error}");
+    let words = text_alone(text.as_str());
+    let _ = eprintln!(errors; "session: {stream}: {words}");
+}
+
+// Where a read failed for good, a line on standard error says why.
+fn read_ended(errors: &impl Eprint, last: io::Result<usize>, pauses: u64) -> ReadOutcome
+    ensures { result ≡ record { last = last; pauses = pauses; failed = failed_call last } }
 {
-    if failed(last) {
-        os::fail(b"session: standard input");
+    if failed(&last) {
+        tell(errors, "standard input", &last);
         return ReadOutcome {
             last,
             pauses,
@@ -138,24 +161,32 @@ fn read_ended(last: Answer, pauses: u64) -> ReadOutcome
 }
 
 // Reads once, as soon as there is something to read or the input has ended.
-pub fn read(chunk: &mut [u8]) -> ReadOutcome
-    ensures { Settled (length chunk.old) result }
+pub fn read<R: Read, T: Clock + Eprint>(input: &mut R, rt: &T, chunk: &mut [u8]) -> ReadOutcome
+    ensures settled { Settled (length chunk.old) result }
+    ensures came { Consumes (R.remaining input.old) (R.remaining input.new) (delivered result.last chunk.new) }
+    ensures end { length (delivered result.last chunk.new) ≡ 0 → result.failed ≡ false → 0 < length chunk.old →
+        IsAtEnd (R.remaining input.new) }
 {
-    let mut last = read_once(chunk);
+    let mut last = read_once(input, chunk);
     let mut pauses = 0;
-    while tries_again(last, pauses) {
-        pause();
+    while tries_again(&last, pauses) {
+        pause(rt);
         pauses += 1;
-        last = read_once(chunk);
+        last = read_once(input, chunk);
     }
-    read_ended(last, pauses)
+    read_ended(rt, last, pauses)
 }
 
-// Where a write failed for good, a line on standard error says why: the error number is still that of its last call.
-fn write_failed(at: usize, last: Answer, pauses: u64) -> WriteOutcome
+// Where a write failed for good, a line on standard error says why.
+fn write_failed(
+    errors: &impl Eprint,
+    at: usize,
+    last: io::Result<usize>,
+    pauses: u64,
+) -> WriteOutcome
     ensures { result ≡ record { at = at; last = last; pauses = pauses; whole = false } }
 {
-    os::fail(b"session: standard output");
+    tell(errors, "standard output", &last);
     WriteOutcome {
         at,
         last,
@@ -165,24 +196,24 @@ fn write_failed(at: usize, last: Answer, pauses: u64) -> WriteOutcome
 }
 
 // Writes all bytes, in as many calls as it takes, the first of them on the whole. Of no bytes it makes no call.
-pub fn write(bytes: &[u8]) -> WriteOutcome
-    ensures { Stopped (length bytes.now) result }
+pub fn write<W: Write, T: Clock + Eprint>(output: &mut W, rt: &T, bytes: &[u8]) -> WriteOutcome
+    ensures stopped { Stopped (length bytes.now) result }
+    ensures bytes { Appends (W.contents output.old) (W.contents output.new) (take (written (length bytes.now) result) bytes.now) }
+    ensures whole { result.whole ≡ true → Appends (W.contents output.old) (W.contents output.new) bytes.now }
 {
     let mut at = 0;
     let mut pauses = 0;
     if bytes.len() == 0 {
-        let last = Answer { got: 0, error: 0 };
         return WriteOutcome {
             at,
-            last,
+            last: Ok(0),
             pauses,
             whole: true,
         };
     }
     loop {
-        let last = write_once(bytes, at);
-        let progress = after_write(bytes, at, last, pauses);
-        match progress {
+        let last = write_once(output, bytes, at);
+        match after_write(bytes, at, &last, pauses) {
             Progress::Done => {
                 return WriteOutcome {
                     at,
@@ -193,10 +224,10 @@ pub fn write(bytes: &[u8]) -> WriteOutcome
             }
             Progress::Rest(next) => at = next,
             Progress::Later => {
-                pause();
+                pause(rt);
                 pauses += 1;
             }
-            Progress::Failed => return write_failed(at, last, pauses),
+            Progress::Failed => return write_failed(rt, at, last, pauses),
         }
     }
 }
