@@ -595,8 +595,8 @@ class FindingTest(FakeCase):
         folder = self.folder.resolve() / name
         (folder / "crates" / "session").mkdir(parents=True)
         if built:
-            (folder / "target" / "bin").mkdir(parents=True)
-            (folder / "target" / "bin" / "session").touch()
+            (folder / "crates" / "session" / "out").mkdir(parents=True)
+            (folder / "crates" / "session" / "out" / "session").touch()
         return folder
 
     def test_an_argument_comes_before_the_variable(self) -> None:
@@ -612,28 +612,29 @@ class FindingTest(FakeCase):
         self.set_variable("")
         one = self.repository("one")
         with mock.patch.object(program, "_repositories", lambda: iter([one])):
-            self.assertEqual(find_program(), str(one / "target" / "bin" / "session"))
+            self.assertEqual(find_program(), str(one / "crates" / "session" / "out" / "session"))
 
     def test_a_repository_without_the_program_is_passed_over(self) -> None:
         found = [self.repository("one", built=False), self.repository("two")]
         with mock.patch.object(program, "_repositories", lambda: iter(found)):
-            self.assertEqual(find_program(), str(found[1] / "target" / "bin" / "session"))
+            self.assertEqual(find_program(), str(found[1] / "crates" / "session" / "out" / "session"))
 
     def test_the_repository_that_the_package_stands_in_comes_first(self) -> None:
         package, current = self.repository("package"), self.repository("current")
         self.enter(current)
         with mock.patch.object(program, "__file__", str(package / "clients" / "waitfield" / "program.py")):
-            self.assertEqual(find_program(), str(package / "target" / "bin" / "session"))
+            self.assertEqual(find_program(), str(package / "crates" / "session" / "out" / "session"))
 
     def test_an_installed_package_finds_the_repository_of_the_current_folder(self) -> None:
         current = self.repository("current")
         self.enter(current / "crates")
         with mock.patch.object(program, "__file__", str(self.folder / "lib" / "waitfield" / "program.py")):
-            self.assertEqual(find_program(), str(current / "target" / "bin" / "session"))
+            self.assertEqual(find_program(), str(current / "crates" / "session" / "out" / "session"))
 
     def test_where_nothing_is_found_the_error_says_what_to_do(self) -> None:
         text = (
-            "the program session is not found: give its path, set WAITFIELD_SESSION, or build it by 'rt check'"
+            "the program session is not found: give its path, set WAITFIELD_SESSION, "
+            "or build it by 'rt run' in crates/session"
         )
         with mock.patch.object(program, "_repositories", lambda: iter([])):
             self.assert_fails(SessionError, text, Session)

@@ -33,15 +33,17 @@ def _repositories() -> Iterator[Path]:
 
 
 def find_program(path: Union[str, "os.PathLike[str]", None] = None) -> str:
-    """The program's path: as given, by the variable WAITFIELD_SESSION, or in the repository's target/bin."""
+    """The program's path: as given, by the variable WAITFIELD_SESSION, or in the repository's crates/session/out."""
     named = path or os.environ.get(VARIABLE)
     if named:
         return os.fspath(named)
     for repository in _repositories():
-        program = repository / "target" / "bin" / "session"
+        program = repository / "crates" / "session" / "out" / "session"
         if program.is_file():
             return str(program)
-    raise SessionError(f"the program session is not found: give its path, set {VARIABLE}, or build it by 'rt check'")
+    raise SessionError(
+        f"the program session is not found: give its path, set {VARIABLE}, or build it by 'rt run' in crates/session"
+    )
 
 
 def _started(path: str) -> tuple[subprocess.Popen[bytes], IO[bytes]]:

@@ -28,7 +28,8 @@ class Session:
     """The program `session`, run for as long as this object is open. Use it in a `with` statement, or close it.
 
     `program` is its path; without one it is looked for by the variable WAITFIELD_SESSION and then in the repository's
-    target/bin. `timeout` is in seconds, for each answer; without one an answer is waited for however long it takes.
+    crates/session/out. `timeout` is in seconds, for each answer; without one an answer is waited for however long it
+    takes.
 
     A line that is refused raises `Refused` and changes nothing; the session goes on. A `SessionError` ends it.
     """

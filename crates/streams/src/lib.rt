@@ -121,7 +121,9 @@ fn write_once<W: Write>(output: &mut W, bytes: &[u8], at: usize) -> io::Result<u
 }
 
 // What stands before the error's number, which `Display` puts in brackets behind its text.
-fn text_alone(text: &str) -> &str {
+fn text_alone(text: &str) -> &str
+    ensures { result.now ≡ take (length result.now) text.now }
+{
     match text.find(" (os error ") {
         Some(end) => &text[..end],
         None => text,

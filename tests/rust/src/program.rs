@@ -18,11 +18,11 @@ pub fn repository() -> PathBuf {
 }
 
 impl Program {
-    /// The path in WAITFIELD_SESSION, or target/bin/session of the repository.
+    /// The path in WAITFIELD_SESSION, or crates/session/out/session of the repository.
     pub fn from_environment() -> Program {
         let path = match std::env::var_os("WAITFIELD_SESSION") {
             Some(path) => path.into(),
-            None => repository().join("target/bin/session"),
+            None => repository().join("crates/session/out/session"),
         };
         Program { path }
     }

@@ -13,7 +13,7 @@ use std::time::Duration;
 
 pub const STOP: c_int = 19;
 pub const CONTINUE: c_int = 18;
-pub const BROKEN_PIPE: c_int = 13;
+const BROKEN_PIPE: c_int = 13;
 
 /// What a terminal's other end answers once nobody has it open.
 pub const INPUT_OUTPUT_ERROR: c_int = 5;

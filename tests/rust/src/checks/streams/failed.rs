@@ -4,13 +4,12 @@ use super::{Outcome, ended_with_line, failed};
 use crate::Checks;
 use crate::at_once::ends_in_silence;
 use std::fs::File;
-use std::os::unix::process::ExitStatusExt;
 use std::process::Command;
 use waitfield_checks::circuits::every_term;
 use waitfield_checks::conversation::{Conversation, INPUT_FAILED, OUTPUT_FAILED, Stream};
 use waitfield_checks::layers::{circuit, layers};
 use waitfield_checks::program::{Program, repository};
-use waitfield_checks::system::{BROKEN_PIPE, Terminal, ignoring_broken_pipe, without_stream};
+use waitfield_checks::system::{Terminal, ignoring_broken_pipe, without_stream};
 
 const INPUT: i32 = 0;
 const OUTPUT: i32 = 1;
@@ -79,17 +78,13 @@ fn reader_gone_in_listing(command: Command) -> Result<Conversation, String> {
 
 type GoneReader = fn(Command) -> Result<Conversation, String>;
 
-/// SIGPIPE by default: the signal ends the program.
-fn ended_by_signal(program: &Program, gone: GoneReader) -> Outcome {
-    let ended = gone(program.command())?.ended()?;
-    match ended.status.signal() == Some(BROKEN_PIPE) && ended.errors.is_empty() {
-        true => Ok(()),
-        false => Err(format!("not by SIGPIPE: ended with {ended}")),
-    }
+/// SIGPIPE by default where the program starts: it ignores the signal by itself, and the write fails.
+fn ended_by_default(program: &Program, gone: GoneReader) -> Outcome {
+    ended_with_line(&gone(program.command())?.ended()?, OUTPUT_FAILED)
 }
 
-/// SIGPIPE ignored: the write fails.
-fn ended_by_write(program: &Program, gone: GoneReader) -> Outcome {
+/// SIGPIPE ignored where the program starts: the write fails.
+fn ended_while_ignored(program: &Program, gone: GoneReader) -> Outcome {
     let mut command = program.command();
     ignoring_broken_pipe(&mut command);
     ended_with_line(&gone(command)?.ended()?, OUTPUT_FAILED)
@@ -143,8 +138,8 @@ pub fn check(checks: &mut Checks) {
         ("a reader that goes", reader_gone as GoneReader),
         ("a reader that goes in the middle of a listing", reader_gone_in_listing),
     ] {
-        tally.check(&format!("{name}, SIGPIPE by default"), ended_by_signal(program, gone));
-        tally.check(&format!("{name}, SIGPIPE ignored"), ended_by_write(program, gone));
+        tally.check(&format!("{name}, SIGPIPE by default"), ended_by_default(program, gone));
+        tally.check(&format!("{name}, SIGPIPE ignored"), ended_while_ignored(program, gone));
     }
     tally.check("standard input a directory", input_directory(program));
     tally.check("standard input closed", input_closed(program));
