@@ -7,7 +7,7 @@ ghost use Rattle.std.specs.Prelude.{◌≡◌, ◌-◌, ◌<◌, ◌≤◌, leng
 ghost use Rattle.std.specs.IoError.{error_kind};
 ghost use Rattle.std.specs.Counts.{IsPrefixLen};
 ghost use Rattle.std.specs.Io.KnownBytes.{Appends, Consumes, IsAtEnd, ReadConsumes, WriteAppends};
-ghost use Rattle.streams.specs.Streams.{after_write, delivered, failed_call, Moved, moved, Settled, Stopped, transient_error, tries_again, written};
+ghost use Rattle.streams.specs.Streams.{after_write, delivered, failed_call, Moved, moved_bytes, Settled, Stopped, transient_error, tries_again, written};
 
 use arrayvec::ArrayString;
 use std::fmt::Write as _;
@@ -79,7 +79,7 @@ fn tries_again(last: &io::Result<usize>, pauses: u64) -> bool
 // How many of the bytes of `part` a call moved that was given them: none where it failed.
 pub fn count(last: &io::Result<usize>, part: &[u8]) -> usize
     ensures in_bounds { IsPrefixLen result part.now }
-    ensures value { result ≡ moved last.now (length part.now) }
+    ensures value { result ≡ moved_bytes last.now (length part.now) }
 {
     match last {
         Ok(count) => (*count).min(part.len()),

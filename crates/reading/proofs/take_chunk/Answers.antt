@@ -7,8 +7,8 @@ use Rattle.reading.proofs.take_chunk.Goals as goal
 pub loop-frame-init : goal.loop-frame-init
 loop-frame-init g c = record { places = refl; size = refl; on = λ input a. on_begun _ _ _ _ _ _ _ a _; failure = λ failed. failed }
 
-pub returns-then-not-frame-clause-by_index : goal.returns-then-not-frame-clause-by_index
-returns-then-not-frame-clause-by_index g c input f =
+pub returns-then-not-frame-clause-follows_on : goal.returns-then-not-frame-clause-follows_on
+returns-then-not-frame-clause-follows_on g c input f =
     let loop = c.loop-frame in
     (chunk_followed input c.args.chunk.now c.args.reading _ _ f loop.from loop.session _ loop.history loop.out c.scan-frame.result c.scan-frame.ensures
     (g.W.Write.contents c.args.output.now) (g.W.Write.contents loop.output)

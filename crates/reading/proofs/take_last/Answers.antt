@@ -5,8 +5,8 @@ use Rattle.transcript.specs.Session.{Progress}
 use Rattle.reading.proofs.ChunkTaken.{input_ended, last_Carries}
 use Rattle.reading.proofs.take_last.Goals as goal
 
-pub returns-clause-by_index : goal.returns-clause-by_index
-returns-clause-by_index g c input f =
+pub returns-clause-at : goal.returns-clause-at
+returns-clause-at g c input f =
     input_ended input c.args.reading c.args.history.now c.args.out.now f refl (λ (p : Progress). At p c.take_pending.result c.take_pending.new.history c.take_pending.new.out)
     c.take_pending.ensures.at
 

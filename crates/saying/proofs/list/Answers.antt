@@ -50,7 +50,7 @@ loop-number-preserved g c =
       room = search rules;
       begun = omega arith;
       waits = rw next (one_Listed _ _ (λ (said : List ℕ). Waits said c.args.out.now c.args.waiting) (loop.number - 1) (λ (said : List ℕ). Waits said loop.out loop.after) loop.invariant.waits loop.number (λ (said : List ℕ). Waits said c.say-after.new.out c.say-after.result) number fetched.ensures loop.invariant.room c.front.ensures (search rules)
-          (rw loop.invariant.same_length at said.ensures.by_index) c.if-len-eq0.false);
+          (rw loop.invariant.same_length at said.ensures.waits) c.if-len-eq0.false);
       into = rw next (one_into c.args.state c.args.out.now c.args.waiting (loop.number - 1) loop.out loop.after loop.invariant.into loop.number said.new.out _ said.result number fetched.ensures loop.invariant.room c.front.ensures
           said.ensures.result_after c.if-len-eq0.false);
       failure = λ failed. said.ensures.failure_kept (loop.invariant.failure failed);

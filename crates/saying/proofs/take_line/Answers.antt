@@ -16,17 +16,17 @@ returns-then-len-eq0-clause-sent g c p before at s =
 
 pub returns-then-state-clause-at : goal.returns-then-state-clause-at
 returns-then-state-clause-at g c p at =
-    line_listed p _ _ _ _ at c.line-reply.ensures refl (search rules) c.if-len-eq0.false c.say-said.ensures.by_index c.say-said.ensures.result_after c.front.ensures
+    line_listed p _ _ _ _ at c.line-reply.ensures refl (search rules) c.if-len-eq0.false c.say-said.ensures.waits c.say-said.ensures.result_after c.front.ensures
     c.say-said.auto.out c.list.auto.out c.list.ensures.waits
 
 pub returns-then-state-clause-waiting_after : goal.returns-then-state-clause-waiting_after
 returns-then-state-clause-waiting_after g c p at =
-    listed_into p _ _ _ _ at c.line-reply.ensures refl (search rules) c.if-len-eq0.false c.say-said.ensures.by_index c.say-said.ensures.result_after c.front.ensures
+    listed_into p _ _ _ _ at c.line-reply.ensures refl (search rules) c.if-len-eq0.false c.say-said.ensures.waits c.say-said.ensures.result_after c.front.ensures
     c.say-said.auto.out c.list.ensures.waits c.list.ensures.result_after
 
 pub returns-then-state-clause-sent : goal.returns-then-state-clause-sent
 returns-then-state-clause-sent g c p before at s =
-    listed_by p _ _ _ _ at c.line-reply.ensures refl (search rules) c.if-len-eq0.false c.say-said.ensures.by_index c.say-said.ensures.result_after c.front.ensures
+    listed_by p _ _ _ _ at c.line-reply.ensures refl (search rules) c.if-len-eq0.false c.say-said.ensures.waits c.say-said.ensures.result_after c.front.ensures
     (λ (said : List ℕ). Sent before said c.args.out.now c.args.session.waiting (g.W.Write.contents c.args.output.now))
     (λ (said : List ℕ). Sent before said c.say-said.new.out c.say-said.result (g.W.Write.contents c.say-said.new.output))
     (λ (said : List ℕ). Sent before said c.list.new.out c.list.result (g.W.Write.contents c.list.new.output))
@@ -34,17 +34,17 @@ returns-then-state-clause-sent g c p before at s =
 
 pub returns-clause-at : goal.returns-clause-at
 returns-clause-at g c p at =
-    line_said p _ _ _ _ at c.line-reply.ensures refl (search rules) c.if-len-eq0.false c.say-said.ensures.by_index c.say-said.ensures.result_after c.front.ensures
+    line_said p _ _ _ _ at c.line-reply.ensures refl (search rules) c.if-len-eq0.false c.say-said.ensures.waits c.say-said.ensures.result_after c.front.ensures
     c.if-state.false c.say-said.auto.out
 
 pub returns-clause-waiting_after : goal.returns-clause-waiting_after
 returns-clause-waiting_after g c p at =
-    said_into p _ _ _ _ at c.line-reply.ensures refl (search rules) c.if-len-eq0.false c.say-said.ensures.by_index c.say-said.ensures.result_after c.front.ensures
+    said_into p _ _ _ _ at c.line-reply.ensures refl (search rules) c.if-len-eq0.false c.say-said.ensures.waits c.say-said.ensures.result_after c.front.ensures
     c.if-state.false
 
 pub returns-clause-sent : goal.returns-clause-sent
 returns-clause-sent g c p before at s =
-    said_by p _ _ _ _ at c.line-reply.ensures refl (search rules) c.if-len-eq0.false c.say-said.ensures.by_index c.say-said.ensures.result_after c.front.ensures
+    said_by p _ _ _ _ at c.line-reply.ensures refl (search rules) c.if-len-eq0.false c.say-said.ensures.waits c.say-said.ensures.result_after c.front.ensures
     (λ (said : List ℕ). Sent before said c.args.out.now c.args.session.waiting (g.W.Write.contents c.args.output.now))
     (λ (said : List ℕ). Sent before said c.say-said.new.out c.say-said.result (g.W.Write.contents c.say-said.new.output))
     c.if-state.false (c.say-said.ensures.sent before) s
