@@ -1,5 +1,5 @@
 -- Which of the system's errors are transient: std's table of their kinds has the two kinds at 4 and at 11, and nowhere else.
-use Rattle.std.proofs.Common.{◌≡◌, ℕ, refl, ap, ◌∙◌, sym, List, [], ◌∷◌, arith}
+use Rattle.std.proofs.Common.{◌≡◌, ℕ, refl, ap, ◌∙◌, List, [], ◌∷◌, arith}
 use Rattle.std.specs.Prelude.{Bool, true, false, ◌&&◌, ◌||◌, not, cond, eqb, ℤ, pos, negsuc, int_lt}
 use Rattle.std_io.specs.IoError.{os_error_kinds, kind_in, os_error_kind}
 use Rattle.std_io.specs.declared.io.kind.ErrorKind.{ErrorKind}

@@ -131,7 +131,7 @@ fn text_alone(text: &str) -> &str
 }
 
 // A line on standard error says which stream failed, and why. A call that took nothing and told no error counts as failed too; the system words that
-// as its error 0. Where the line cannot be written, there is nowhere to say so.
+// as its error 0. Each of the system's texts has room in 128 bytes. Where the line cannot be written, there is nowhere to say so.
 fn tell(errors: &impl Eprint, stream: &str, last: &io::Result<usize>) {
     let error = match last {
         Ok(_) => io::Error::from_raw_os_error(0),
