@@ -21,7 +21,7 @@ use std::rt::Clock;
 const MOST_TERMS: usize = 4912;
 
 // The engine and its answers that wait.
-#[derive(Clone, Copy)]
+#[derive(Clone, Copy, Debug, PartialEq, Eq)]
 pub struct Session {
     pub state: State,
     pub waiting: Waiting,
@@ -31,98 +31,79 @@ pub struct Session {
 fn list<W: Write, T: Clock + Eprint>(
     output: &mut W,
     rt: &T,
-    state: State,
+    state: &State,
     out: &mut [u8],
-    waiting: Waiting,
-) -> Waiting
-    ensures waits { (e : Engine) (h said : List ℕ) → Holds e state h → 64 < length out.old → Waits said out.old waiting →
-        Waits (said ++ as_text (later_lines e)) out.new result }
-    ensures failure_kept { FailureKept waiting result }
-    ensures result_after { (e : Engine) (h : List ℕ) → Holds e state h → 64 < length out.old →
-        buffered out.new result ≡ all_said_into (buffered out.old waiting) (later_lines e) }
-    ensures sent { (e : Engine) (h : List ℕ) (before : Option (List ℕ)) (said : List ℕ) → Holds e state h → 64 < length out.old →
-        Sent before said out.old waiting (W.contents output.old) →
-        Sent before (said ++ as_text (later_lines e)) out.new result (W.contents output.new) }
+    waiting: &mut Waiting,
+)
+    ensures waits { (e : Engine) (h said : List ℕ) → Holds e state.now h → 64 < length out.old → Waits said out.old waiting.old →
+        Waits (said ++ as_text (later_lines e)) out.new waiting.new }
+    ensures failure_kept { FailureKept waiting.old waiting.new }
+    ensures result_after { (e : Engine) (h : List ℕ) → Holds e state.now h → 64 < length out.old →
+        buffered out.new waiting.new ≡ all_said_into (buffered out.old waiting.old) (later_lines e) }
+    ensures sent { (e : Engine) (h : List ℕ) (before : Option (List ℕ)) (said : List ℕ) → Holds e state.now h → 64 < length out.old →
+        Sent before said out.old waiting.old (W.contents output.old) →
+        Sent before (said ++ as_text (later_lines e)) out.new waiting.new (W.contents output.new) }
 {
     let mut answer = [0u8; 64];
-    let mut after = waiting;
-    let mut number = 1;
-    while number <= MOST_TERMS {
-        let fetched = engine::fetch(state, number, &mut answer);
-        let len = fetched.len;
+    for number in 1..=MOST_TERMS {
+        let len = state.later_line(number, &mut answer).len;
         if len == 0 {
-            return after;
+            return;
         }
-        after = output::say(output, rt, out, after, framing::front(&answer, len));
-        number += 1;
-    }
-    after
-}
-
-// A line, its answer and, if that opens a listing, the lines of it. A line of no bytes has no answer.
-fn take_line<W: Write, T: Clock + Eprint>(
-    output: &mut W,
-    rt: &T,
-    session: Session,
-    history: &mut [u32],
-    out: &mut [u8],
-    line: &[u8],
-) -> Session
-    ensures at { (p : Progress) → At p session history.old out.old →
-        At (with_line p line.now) result history.new out.new }
-    ensures failure_kept { FailureKept session.waiting result.waiting }
-    ensures waiting_after { (p : Progress) → At p session history.old out.old →
-        buffered out.new result.waiting ≡ all_said_into (buffered out.old session.waiting) (said_to p line.now) }
-    ensures sent { (p : Progress) (before : Option (List ℕ)) → At p session history.old out.old →
-        Sent before p.said out.old session.waiting (W.contents output.old) →
-        Sent before (with_line p line.now).said out.new result.waiting (W.contents output.new) }
-{
-    let mut answer = [0u8; 64];
-    let reply = engine::line(session.state, history, line, &mut answer);
-    let state = reply.state;
-    let len = reply.len;
-    let waiting = session.waiting;
-    if len == 0 {
-        return Session { state, waiting };
-    }
-    let said = output::say(output, rt, out, waiting, framing::front(&answer, len));
-    if state.listed {
-        return Session {
-            state,
-            waiting: list(output, rt, state, out, said),
-        };
-    }
-    Session {
-        state,
-        waiting: said,
+        waiting.say(output, rt, out, framing::front(&answer, len));
     }
 }
 
-pub fn take_pending<W: Write, T: Clock + Eprint>(
-    output: &mut W,
-    rt: &T,
-    session: Session,
-    history: &mut [u32],
-    out: &mut [u8],
-    pending: Pending,
-) -> Session
-    ensures at { (p : Progress) (line : List ℕ) → At p session history.old out.old → pending ≡ pending_of line →
-        At (with_line p line) result history.new out.new }
-    ensures failure_kept { FailureKept session.waiting result.waiting }
-    ensures waiting_after { (p : Progress) (line : List ℕ) → At p session history.old out.old → pending ≡ pending_of line →
-        buffered out.new result.waiting ≡ all_said_into (buffered out.old session.waiting) (said_to p line) }
-    ensures sent { (p : Progress) (line : List ℕ) (before : Option (List ℕ)) → At p session history.old out.old → pending ≡ pending_of line →
-        Sent before p.said out.old session.waiting (W.contents output.old) →
-        Sent before (with_line p line).said out.new result.waiting (W.contents output.new) }
-{
-    let bytes = pending.bytes;
-    let len = pending.len;
-    take_line(
-        output,
-        rt,
-        session,
-        history,
-        out,
-        framing::front(&bytes, len),
+impl Session {
+    // A line, its answer and, if that opens a listing, the lines of it. A line of no bytes has no answer.
+    fn take_line<W: Write, T: Clock + Eprint>(
+        &mut self,
+        output: &mut W,
+        rt: &T,
+        history: &mut [u32],
+        out: &mut [u8],
+        line: &[u8],
     )
+        ensures at { (p : Progress) → At p self.old history.old out.old →
+            At (with_line p line.now) self.new history.new out.new }
+        ensures failure_kept { FailureKept self.old.waiting self.new.waiting }
+        ensures waiting_after { (p : Progress) → At p self.old history.old out.old →
+            buffered out.new self.new.waiting ≡ all_said_into (buffered out.old self.old.waiting) (said_to p line.now) }
+        ensures sent { (p : Progress) (before : Option (List ℕ)) → At p self.old history.old out.old →
+            Sent before p.said out.old self.old.waiting (W.contents output.old) →
+            Sent before (with_line p line.now).said out.new self.new.waiting (W.contents output.new) }
+    {
+        let mut answer = [0u8; 64];
+        let len = self.state.take_line(history, line, &mut answer).len;
+        if len == 0 {
+            return;
+        }
+        self.waiting
+            .say(output, rt, out, framing::front(&answer, len));
+        if self.state.listed {
+            list(output, rt, &self.state, out, &mut self.waiting);
+        }
+    }
+
+    // The line that was kept, taken as the whole line would be.
+    pub fn take_pending<W: Write, T: Clock + Eprint>(
+        &mut self,
+        output: &mut W,
+        rt: &T,
+        history: &mut [u32],
+        out: &mut [u8],
+        pending: &Pending,
+    )
+        ensures at { (p : Progress) (line : List ℕ) → At p self.old history.old out.old → pending.now ≡ pending_of line →
+            At (with_line p line) self.new history.new out.new }
+        ensures failure_kept { FailureKept self.old.waiting self.new.waiting }
+        ensures waiting_after { (p : Progress) (line : List ℕ) → At p self.old history.old out.old → pending.now ≡ pending_of line →
+            buffered out.new self.new.waiting ≡ all_said_into (buffered out.old self.old.waiting) (said_to p line) }
+        ensures sent { (p : Progress) (line : List ℕ) (before : Option (List ℕ)) → At p self.old history.old out.old →
+            pending.now ≡ pending_of line → Sent before p.said out.old self.old.waiting (W.contents output.old) →
+            Sent before (with_line p line).said out.new self.new.waiting (W.contents output.new) }
+    {
+        let line = framing::front(&pending.bytes, pending.len);
+        self.take_line(output, rt, history, out, line);
+    }
 }

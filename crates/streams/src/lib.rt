@@ -19,8 +19,9 @@ use std::{io, thread};
 // A proved loop has to end, and nothing says that a stream that would block is ever ready. No run makes so many pauses.
 const MOST_PAUSES: u64 = u64::MAX;
 
-// How a read ended: what its last call answered, how many pauses were made, and whether it failed for good.
-#[derive(Clone, Copy)]
+// How a read ended: what its last call answered, how many pauses were made, and whether it failed for good. It is no `Result`: `Settled` speaks of
+// all three. It has no equality, since an `io::Error` has none.
+#[derive(Clone, Copy, Debug)]
 pub struct ReadOutcome {
     pub last: io::Result<usize>,
     pub pauses: u64,
@@ -28,7 +29,8 @@ pub struct ReadOutcome {
 }
 
 // How a write ended: where its last call began, what that call answered, how many pauses were made, and whether all bytes were written.
-#[derive(Clone, Copy)]
+// `Stopped` speaks of all four.
+#[derive(Clone, Copy, Debug)]
 pub struct WriteOutcome {
     pub at: usize,
     pub last: io::Result<usize>,
@@ -37,7 +39,7 @@ pub struct WriteOutcome {
 }
 
 // What a write call leaves to do.
-#[derive(Clone, Copy)]
+#[derive(Clone, Copy, Debug, PartialEq, Eq)]
 pub enum Progress {
     // Nothing: all bytes are written.
     Done,
@@ -54,12 +56,6 @@ fn pause(clock: &impl Clock) {
     thread::sleep(clock, Duration::from_millis(1));
 }
 
-fn failed(last: &io::Result<usize>) -> bool
-    ensures { result ≡ failed_call last.now }
-{
-    last.is_err()
-}
-
 fn transient(error: &io::Error) -> bool
     ensures { result ≡ transient_error error.now }
 {
@@ -70,10 +66,7 @@ fn transient(error: &io::Error) -> bool
 fn tries_again(last: &io::Result<usize>, pauses: u64) -> bool
     ensures { result ≡ tries_again last.now pauses }
 {
-    match last {
-        Ok(_) => false,
-        Err(error) => pauses < MOST_PAUSES && transient(error),
-    }
+    last.is_err_and(|error| pauses < MOST_PAUSES && transient(&error))
 }
 
 // How many of the bytes of `part` a call moved that was given them: none where it failed.
@@ -81,10 +74,7 @@ pub fn count(last: &io::Result<usize>, part: &[u8]) -> usize
     ensures in_bounds { IsPrefixLen result part.now }
     ensures value { result ≡ moved_bytes last.now (length part.now) }
 {
-    match last {
-        Ok(count) => (*count).min(part.len()),
-        Err(_) => 0,
-    }
+    last.map_or(0, |count| count.min(part.len()))
 }
 
 // What a write call of the bytes from `at` on leaves to do.
@@ -124,19 +114,14 @@ fn write_once<W: Write>(output: &mut W, bytes: &[u8], at: usize) -> io::Result<u
 fn text_alone(text: &str) -> &str
     ensures { result.now ≡ take (length result.now) text.now }
 {
-    match text.find(" (os error ") {
-        Some(end) => &text[..end],
-        None => text,
-    }
+    text.split_once(" (os error ")
+        .map_or(text, |(front, _)| front)
 }
 
 // A line on standard error says which stream failed, and why. A call that took nothing and told no error counts as failed too; the system words that
 // as its error 0. Each of the system's texts has room in 128 bytes. Where the line cannot be written, there is nowhere to say so.
-fn tell(errors: &impl Eprint, stream: &str, last: &io::Result<usize>) {
-    let error = match last {
-        Ok(_) => io::Error::from_raw_os_error(0),
-        Err(error) => *error,
-    };
+fn tell(errors: &impl Eprint, stream: &str, last: io::Result<usize>) {
+    let error = last.err().unwrap_or(io::Error::from_raw_os_error(0));
     let mut text = ArrayString::<128>::new();
     let _ = write!(text, "{error}");
     let words = text_alone(text.as_str());
@@ -147,18 +132,14 @@ fn tell(errors: &impl Eprint, stream: &str, last: &io::Result<usize>) {
 fn read_ended(errors: &impl Eprint, last: io::Result<usize>, pauses: u64) -> ReadOutcome
     ensures { result ≡ record { last = last; pauses = pauses; failed = failed_call last } }
 {
-    if failed(&last) {
-        tell(errors, "standard input", &last);
-        return ReadOutcome {
-            last,
-            pauses,
-            failed: true,
-        };
+    let failed = last.is_err();
+    if failed {
+        tell(errors, "standard input", last);
     }
     ReadOutcome {
         last,
         pauses,
-        failed: false,
+        failed,
     }
 }
 
@@ -171,6 +152,7 @@ pub fn read<R: Read, T: Clock + Eprint>(input: &mut R, rt: &T, chunk: &mut [u8])
 {
     let mut last = read_once(input, chunk);
     let mut pauses = 0;
+    // No `for`: `Settled` speaks of the pauses made, and a loop over them would make a read more than it tells of.
     while tries_again(&last, pauses) {
         pause(rt);
         pauses += 1;
@@ -188,7 +170,7 @@ fn write_failed(
 ) -> WriteOutcome
     ensures { result ≡ record { at = at; last = last; pauses = pauses; whole = false } }
 {
-    tell(errors, "standard output", &last);
+    tell(errors, "standard output", last);
     WriteOutcome {
         at,
         last,
@@ -205,7 +187,7 @@ pub fn write<W: Write, T: Clock + Eprint>(output: &mut W, rt: &T, bytes: &[u8]) 
 {
     let mut at = 0;
     let mut pauses = 0;
-    if bytes.len() == 0 {
+    if bytes.is_empty() {
         return WriteOutcome {
             at,
             last: Ok(0),
@@ -213,6 +195,7 @@ pub fn write<W: Write, T: Clock + Eprint>(output: &mut W, rt: &T, bytes: &[u8]) 
             whole: true,
         };
     }
+    // No `for`: a write ends at its bytes' end or at a failure, and the pauses counted are told (`Stopped`).
     loop {
         let last = write_once(output, bytes, at);
         match after_write(bytes, at, &last, pauses) {

@@ -10,65 +10,63 @@ pub loop-number-init : goal.loop-number-init
 loop-number-init g c = record {
   same_length = refl;
   room = search rules;
-  begun = omega arith;
-  waits = none_Listed _ _ (λ (said : List ℕ). Waits said c.args.out.now c.args.waiting);
+  waits = none_Listed _ _ (λ (said : List ℕ). Waits said c.args.out.now c.args.waiting.now);
   into = λ e h held big. nothing_into _;
   failure = λ failed. failed;
-  sent = λ before. none_Listed _ _ (λ (said : List ℕ). Sent before said c.args.out.now c.args.waiting (g.W.Write.contents c.args.output.now));
+  sent = λ before. none_Listed _ _ (λ (said : List ℕ). Sent before said c.args.out.now c.args.waiting.now (g.W.Write.contents c.args.output.now));
 }
 
 pub returns-then-len-eq0-clause-waits : goal.returns-then-len-eq0-clause-waits
 returns-then-len-eq0-clause-waits g c e h said held big w =
     let loop = c.loop-number in
-    let number : loop.number ≡ suc (loop.number - 1) = omega (arith, loop.invariant.begun) in
-    all_listed _ _ (λ (said : List ℕ). Waits said c.args.out.now c.args.waiting) (loop.number - 1) (λ (said : List ℕ). Waits said loop.out loop.after) loop.invariant.waits e h said held big w
-    (past_listed _ (loop.number - 1) loop.number number c.fetch-fetched.ensures loop.invariant.room c.if-len-eq0.true e h held)
+    let number : loop.number ≡ suc (loop.number - 1) = omega arith in
+    all_listed _ _ (λ (said : List ℕ). Waits said c.args.out.now c.args.waiting.now) (loop.number - 1) (λ (said : List ℕ). Waits said loop.out loop.waiting) loop.invariant.waits e h said held big w
+    (past_listed _ (loop.number - 1) loop.number number c.later_line-len.ensures loop.invariant.room c.if-len-eq0.true e h held)
 
 pub returns-then-len-eq0-clause-result_after : goal.returns-then-len-eq0-clause-result_after
 returns-then-len-eq0-clause-result_after g c e h held big =
     let loop = c.loop-number in
-    let number : loop.number ≡ suc (loop.number - 1) = omega (arith, loop.invariant.begun) in
-    all_into c.args.state c.args.out.now c.args.waiting (loop.number - 1) loop.out loop.after loop.invariant.into e h held big
-    (past_listed _ (loop.number - 1) loop.number number c.fetch-fetched.ensures loop.invariant.room c.if-len-eq0.true e h held)
+    let number : loop.number ≡ suc (loop.number - 1) = omega arith in
+    all_into c.args.state.now c.args.out.now c.args.waiting.now (loop.number - 1) loop.out loop.waiting loop.invariant.into e h held big
+    (past_listed _ (loop.number - 1) loop.number number c.later_line-len.ensures loop.invariant.room c.if-len-eq0.true e h held)
 
 pub returns-then-len-eq0-clause-sent : goal.returns-then-len-eq0-clause-sent
 returns-then-len-eq0-clause-sent g c e h before said held big w =
     let loop = c.loop-number in
-    let number : loop.number ≡ suc (loop.number - 1) = omega (arith, loop.invariant.begun) in
-    all_listed _ _ (λ (said : List ℕ). Sent before said c.args.out.now c.args.waiting (g.W.Write.contents c.args.output.now)) (loop.number - 1) (λ (said : List ℕ). Sent before said loop.out loop.after (g.W.Write.contents loop.output)) (loop.invariant.sent before) e h said held big w
-    (past_listed _ (loop.number - 1) loop.number number c.fetch-fetched.ensures loop.invariant.room c.if-len-eq0.true e h held)
+    let number : loop.number ≡ suc (loop.number - 1) = omega arith in
+    all_listed _ _ (λ (said : List ℕ). Sent before said c.args.out.now c.args.waiting.now (g.W.Write.contents c.args.output.now)) (loop.number - 1) (λ (said : List ℕ). Sent before said loop.out loop.waiting (g.W.Write.contents loop.output)) (loop.invariant.sent before) e h said held big w
+    (past_listed _ (loop.number - 1) loop.number number c.later_line-len.ensures loop.invariant.room c.if-len-eq0.true e h held)
 
 pub loop-number-preserved : goal.loop-number-preserved
 loop-number-preserved g c =
     let loop = c.loop-number in
-    let fetched = c.fetch-fetched in
-    let said = c.say-after in
-    let number : loop.number ≡ suc (loop.number - 1) = omega (arith, loop.invariant.begun) in
+    let fetched = c.later_line-len in
+    let said = c.say in
+    let number : loop.number ≡ suc (loop.number - 1) = omega arith in
     let next : loop.number + 1 - 1 ≡ loop.number = omega arith in
     record {
       same_length = search rules;
       room = search rules;
-      begun = omega arith;
-      waits = rw next (one_Listed _ _ (λ (said : List ℕ). Waits said c.args.out.now c.args.waiting) (loop.number - 1) (λ (said : List ℕ). Waits said loop.out loop.after) loop.invariant.waits loop.number (λ (said : List ℕ). Waits said c.say-after.new.out c.say-after.result) number fetched.ensures loop.invariant.room c.front.ensures (search rules)
+      waits = rw next (one_Listed _ _ (λ (said : List ℕ). Waits said c.args.out.now c.args.waiting.now) (loop.number - 1) (λ (said : List ℕ). Waits said loop.out loop.waiting) loop.invariant.waits loop.number (λ (said : List ℕ). Waits said c.say.new.out c.say.new.self) number fetched.ensures loop.invariant.room c.front.ensures (search rules)
           (rw loop.invariant.same_length at said.ensures.waits) c.if-len-eq0.false);
-      into = rw next (one_into c.args.state c.args.out.now c.args.waiting (loop.number - 1) loop.out loop.after loop.invariant.into loop.number said.new.out _ said.result number fetched.ensures loop.invariant.room c.front.ensures
+      into = rw next (one_into c.args.state.now c.args.out.now c.args.waiting.now (loop.number - 1) loop.out loop.waiting loop.invariant.into loop.number said.new.out _ said.new.self number fetched.ensures loop.invariant.room c.front.ensures
           said.ensures.result_after c.if-len-eq0.false);
       failure = λ failed. said.ensures.failure_kept (loop.invariant.failure failed);
-      sent = λ before. rw next (one_Listed _ _ (λ (said : List ℕ). Sent before said c.args.out.now c.args.waiting (g.W.Write.contents c.args.output.now)) (loop.number - 1) (λ (said : List ℕ). Sent before said loop.out loop.after (g.W.Write.contents loop.output)) (loop.invariant.sent before) loop.number (λ (said : List ℕ). Sent before said c.say-after.new.out c.say-after.result (g.W.Write.contents c.say-after.new.output)) number fetched.ensures loop.invariant.room c.front.ensures (search rules)
+      sent = λ before. rw next (one_Listed _ _ (λ (said : List ℕ). Sent before said c.args.out.now c.args.waiting.now (g.W.Write.contents c.args.output.now)) (loop.number - 1) (λ (said : List ℕ). Sent before said loop.out loop.waiting (g.W.Write.contents loop.output)) (loop.invariant.sent before) loop.number (λ (said : List ℕ). Sent before said c.say.new.out c.say.new.self (g.W.Write.contents c.say.new.output)) number fetched.ensures loop.invariant.room c.front.ensures (search rules)
           (rw loop.invariant.same_length at (said.ensures.sent before)) c.if-len-eq0.false);
     }
 
 pub returns-clause-waits : goal.returns-clause-waits
 returns-clause-waits g c e h said held big w =
     let loop = c.loop-number in
-    all_listed _ _ (λ (said : List ℕ). Waits said c.args.out.now c.args.waiting) (loop.number - 1) (λ (said : List ℕ). Waits said loop.out loop.after) loop.invariant.waits e h said held big w (omega (arith, later_few e, c.loop-number-test.false))
+    all_listed _ _ (λ (said : List ℕ). Waits said c.args.out.now c.args.waiting.now) (loop.number - 1) (λ (said : List ℕ). Waits said loop.out loop.waiting) loop.invariant.waits e h said held big w (omega (arith, later_few e))
 
 pub returns-clause-result_after : goal.returns-clause-result_after
 returns-clause-result_after g c e h held big =
     let loop = c.loop-number in
-    all_into c.args.state c.args.out.now c.args.waiting (loop.number - 1) loop.out loop.after loop.invariant.into e h held big (omega (arith, later_few e, c.loop-number-test.false))
+    all_into c.args.state.now c.args.out.now c.args.waiting.now (loop.number - 1) loop.out loop.waiting loop.invariant.into e h held big (omega (arith, later_few e))
 
 pub returns-clause-sent : goal.returns-clause-sent
 returns-clause-sent g c e h before said held big w =
     let loop = c.loop-number in
-    all_listed _ _ (λ (said : List ℕ). Sent before said c.args.out.now c.args.waiting (g.W.Write.contents c.args.output.now)) (loop.number - 1) (λ (said : List ℕ). Sent before said loop.out loop.after (g.W.Write.contents loop.output)) (loop.invariant.sent before) e h said held big w (omega (arith, later_few e, c.loop-number-test.false))
+    all_listed _ _ (λ (said : List ℕ). Sent before said c.args.out.now c.args.waiting.now (g.W.Write.contents c.args.output.now)) (loop.number - 1) (λ (said : List ℕ). Sent before said loop.out loop.waiting (g.W.Write.contents loop.output)) (loop.invariant.sent before) e h said held big w (omega (arith, later_few e))
