@@ -6,7 +6,7 @@ use crate::at_once::ends_in_silence;
 use std::fs::File;
 use std::process::Command;
 use waitfield_checks::circuits::every_term;
-use waitfield_checks::conversation::{Conversation, INPUT_FAILED, OUTPUT_FAILED, Stream};
+use waitfield_checks::conversation::{Conversation, INPUT_FAILED, OUTPUT_FAILED, Pace, Stream};
 use waitfield_checks::layers::{circuit, layers};
 use waitfield_checks::program::{Program, repository};
 use waitfield_checks::system::{Terminal, ignoring_broken_pipe, without_stream};
@@ -66,12 +66,18 @@ fn reader_gone(command: Command) -> Result<Conversation, String> {
     Ok(talk)
 }
 
-/// A reader that goes while the program waits for room for the rest of a listing.
+/// A reader that goes while the program waits for room for the rest of a listing. It takes few bytes, so that what is left has no room in a pipe.
 fn reader_gone_in_listing(command: Command) -> Result<Conversation, String> {
     let mut talk = reading(Stream::input().map_err(failed)?, command)?;
     let lines = circuit(16, &layers(&every_term(16)));
     talk.give(format!("{}\n(terms)\n", lines.join("\n")).as_bytes())?;
-    talk.take_lines(5)?;
+    talk.take_lines_at(
+        5,
+        Pace {
+            taken: 5,
+            ..Pace::AT_ONCE
+        },
+    )?;
     talk.close_output();
     Ok(talk)
 }
